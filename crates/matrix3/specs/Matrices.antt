@@ -5,6 +5,8 @@
 --   determinant a     the determinant, by six terms
 --   adjugate a        the matrix of signed minors, whose product with a is the determinant times the identity
 --   scalar k          k times the identity
+--   sum_of u v        the sum of two columns
+--   multiple k v      k times a column
 use Rattle.std.specs.Prelude.{ℕ, ◌+◌, ℤ, pos, List, [], ◌∷◌}
 use Rattle.ring.specs.Ring.{Ops, Expr, var}
 use Rattle.matrix3.specs.declared.vector.Vec3.{Vec3}
@@ -65,6 +67,15 @@ module _ {R : Type 0} (o : Ops R) where
   scalar k =
       let zero = int (pos 0) in
       record { a11 = k; a12 = zero; a13 = zero; a21 = zero; a22 = k; a23 = zero; a31 = zero; a32 = zero; a33 = k }
+
+module _ {R : Type 0} (o : Ops R) where
+  open o use {◌⊕◌, ◌⊗◌}
+
+  abbrev pub sum_of : Vec3 R → Vec3 R → Vec3 R
+  sum_of u v = record { x = u.x ⊕ v.x; y = u.y ⊕ v.y; z = u.z ⊕ v.z }
+
+  abbrev pub multiple : R → Vec3 R → Vec3 R
+  multiple k v = record { x = k ⊗ v.x; y = k ⊗ v.y; z = k ⊗ v.z }
 
 abbrev pub transposed : {R : Type 0} → Mat3 R → Mat3 R
 transposed a = record { a11 = a.a11; a12 = a.a21; a13 = a.a31; a21 = a.a12; a22 = a.a22; a23 = a.a32; a31 = a.a13; a32 = a.a23; a33 = a.a33 }

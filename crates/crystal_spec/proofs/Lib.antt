@@ -1,0 +1,4 @@
+pub mod Entrywise
+pub mod Identities
+pub mod Isometries
+pub mod Ordered

@@ -1,0 +1,61 @@
+-- A magnetic crystal: the infinite periodic set of atoms that a cell stands for, and the maps that keep it.
+--   Site                  an atom of a cell: its species, position and moment
+--   Structure             a cell: names of species, metric tensor, units and atoms
+--   IsPositive g          the three leading minors of g are positive, as those of a metric tensor are
+--   Occupied c s p m      the infinite crystal has an atom of species s with moment m at position p
+--   KeepsMetric g w       w is an isometry of the metric g: wᵀ g w = g
+--   position_after w t p  where the map of matrix w and translation t takes the position p
+--   moment_after w s m    the moment that the map of matrix w and time sign s makes of m, as an axial vector
+--   Keeps c w t s         the map keeps the metric and carries the infinite crystal onto itself
+use Rattle.std.specs.Prelude.{◌≡◌, ◌↔◌, ℕ, ℤ, pos, ◌+ℤ◌, ◌-ℤ◌, ◌*ℤ◌, ◌<ℤ◌, List}
+use Rattle.std.specs.List.{Contains}
+use Rattle.crystal_spec.specs.Matrices.{Triple, Matrix, product, image, transposed, determinant, multiple, sum_of}
+
+-- an atom of a cell: its species, its position in units of 1/n, its moment in units of 1/k, both along the axes
+pub record Site : Type 0 where
+  pub species : ℕ
+  pub position : Triple
+  pub moment : Triple
+
+-- A cell. The metric tensor divided by the scale is that of the axes; a species is a number into the names.
+pub record Structure : Type 0 where
+  pub names : List (List ℕ)
+  pub scale : ℤ
+  pub metric : Matrix
+  pub n : ℕ
+  pub k : ℕ
+  pub sites : List Site
+
+-- the three leading minors are positive
+pub record IsPositive (g : Matrix) : Type 0 where
+  pub first : pos 0 <ℤ g.a11
+  pub second : pos 0 <ℤ (g.a11 *ℤ g.a22 -ℤ g.a12 *ℤ g.a21)
+  pub third : pos 0 <ℤ determinant g
+
+-- An atom of this species and moment is at this position: an atom of the cell has them, and its own position differs
+-- from this one by whole cells, which are multiples of n in each coordinate.
+pub record Occupied (c : Structure) (species : ℕ) (position moment : Triple) : Type 0 where
+  pub site : Site
+  pub of_cell : Contains c.sites site
+  pub same_species : site.species ≡ species
+  pub same_moment : site.moment ≡ moment
+  pub cells : Triple
+  pub same_position : position ≡ sum_of site.position (multiple (pos c.n) cells)
+
+-- the matrix keeps all lengths and angles
+abbrev pub KeepsMetric : Matrix → Matrix → Type 0
+KeepsMetric g w = product (transposed w) (product g w) ≡ g
+
+-- the position p goes to w p + t
+abbrev pub position_after : Matrix → Triple → Triple → Triple
+position_after w t p = sum_of (image w p) t
+
+-- the moment m goes to sign · det(w) · w m
+abbrev pub moment_after : Matrix → ℤ → Triple → Triple
+moment_after w sign m = multiple (sign *ℤ determinant w) (image w m)
+
+-- For all species, positions and moments, an atom is there exactly where one of the same species with the carried
+-- moment is at the carried position.
+pub record Keeps (c : Structure) (w : Matrix) (t : Triple) (sign : ℤ) : Type 0 where
+  pub metric : KeepsMetric c.metric w
+  pub crystal : (species : ℕ) (position moment : Triple) → Occupied c species position moment ↔ Occupied c species (position_after w t position) (moment_after w sign moment)

@@ -1,0 +1,4 @@
+pub mod Matrices
+pub mod Crystals
+pub mod Increasing
+pub mod Operations
