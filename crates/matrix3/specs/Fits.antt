@@ -3,7 +3,7 @@ use Rattle.std.specs.Prelude.{◌≡◌, ℕ}
 use Rattle.ring.specs.Ring.{Ops}
 use Rattle.matrix3.specs.declared.vector.Vec3.{Vec3}
 use Rattle.matrix3.specs.declared.matrix.Mat3.{Mat3}
-use Rattle.matrix3.specs.Matrices.{dot, alternating, minor, determinant}
+use Rattle.matrix3.specs.Matrices.{dot, alternating, minor}
 
 -- each of the five numbers has this modulus
 pub record FiveOfModulus {T : Type 0} (modulus : T → ℕ) (m : ℕ) (b c x y z : T) : Type 0 where

@@ -7,7 +7,7 @@
 --   scalar k          k times the identity
 --   sum_of u v        the sum of two columns
 --   multiple k v      k times a column
-use Rattle.std.specs.Prelude.{ℕ, ◌+◌, ℤ, pos, List, [], ◌∷◌}
+use Rattle.std.specs.Prelude.{ℕ, ◌+◌, pos, List, [], ◌∷◌}
 use Rattle.ring.specs.Ring.{Ops, Expr, var}
 use Rattle.matrix3.specs.declared.vector.Vec3.{Vec3}
 use Rattle.matrix3.specs.declared.matrix.Mat3.{Mat3}
@@ -86,6 +86,24 @@ matrix_map f a = record { a11 = f a.a11; a12 = f a.a12; a13 = f a.a13; a21 = f a
 
 abbrev pub vector_map : {R S : Type 0} → (R → S) → Vec3 R → Vec3 S
 vector_map f v = record { x = f v.x; y = f v.y; z = f v.z }
+
+-- P holds for each entry
+pub record EachEntry {R : Type 0} (P : R → Type 0) (a : Mat3 R) : Type 0 where
+  pub a11 : P a.a11
+  pub a12 : P a.a12
+  pub a13 : P a.a13
+  pub a21 : P a.a21
+  pub a22 : P a.a22
+  pub a23 : P a.a23
+  pub a31 : P a.a31
+  pub a32 : P a.a32
+  pub a33 : P a.a33
+
+-- P holds for each coordinate
+pub record EachCoordinate {R : Type 0} (P : R → Type 0) (v : Vec3 R) : Type 0 where
+  pub x : P v.x
+  pub y : P v.y
+  pub z : P v.z
 
 -- the nine entries row by row
 abbrev pub entries : {R : Type 0} → Mat3 R → List R
