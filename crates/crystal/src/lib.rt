@@ -6,6 +6,7 @@
 
 mod atom;
 mod cell;
+mod mapping;
 mod metric;
 mod name;
 mod steps;
