@@ -1,12 +1,19 @@
-ghost use Rattle.std.specs.Prelude.{◌≡◌, ◌*◌, ◌^◌, ◌<◌, ◌≤ℤ◌, pos, IfOk, [], ◌∷◌, length, slice_get, Some};
-ghost use Rattle.crystal_spec.specs.Crystals.{IsPositive};
-ghost use Rattle.crystal.specs.Views.{metric_of, site_of};
+ghost use Rattle.std.specs.Prelude.{◌≡◌, ◌↔◌, IsTrue, ◌*◌, ◌^◌, ◌<◌, ◌≤ℤ◌, pos, IfOk, IfSome, IfNone, [], ◌∷◌, length, slice_get, Some};
+ghost use Rattle.crystal_spec.specs.Matrices.{Triple};
+ghost use Rattle.crystal_spec.specs.Crystals.{IsPositive, Keeps};
+ghost use Rattle.crystal_spec.specs.Operations.{sign_factor};
+ghost use Rattle.crystal.specs.Views.{metric_of, site_of, triple_of};
+ghost use Rattle.crystal.specs.Occupants.{IsOccupant, NoneAt};
 ghost use Rattle.crystal.specs.Bounds.{EntriesAtMost, CoordinatesAtMost};
 
 use crate::atom::Atom;
+use crate::mapping::{keeps_metric, keeps_moment};
 use crate::metric::Metric;
 use crate::name::Name;
+use crate::occupant::find_occupant;
+use crystal_spec::Sign;
 use exact_num::Int;
+use matrix3::Mat3;
 use std::alloc::{AllocError, Global};
 use std::marker::Model;
 
@@ -142,6 +149,23 @@ impl Cell {
         ensures { slice_get self.now.names species ≡ Some result.now }
     {
         &self.names[species as usize]
+    }
+
+    /// The number of the atom at a position, or `None` where no atom is there.
+    pub(crate) fn occupant(&self, place: [u32; 3]) -> Option<usize>
+        ensures found { IfSome result (IsOccupant self.now.sites (triple_of place)) }
+        ensures absent { IfNone result (NoneAt (triple_of place) self.now.sites) }
+    {
+        find_occupant(&self.atoms, place)
+    }
+
+    /// Whether the map of this matrix, without translation, and time sign keeps the crystal of the one atom.
+    pub(crate) fn keeps_map(&self, w: &Mat3<Int>, sign: Sign) -> bool
+        requires map { EntriesAtMost 150000000 w.now }
+        ensures { (shift : Triple) → IsTrue result ↔ Keeps self.now w.now shift (sign_factor sign) }
+    {
+        let g = self.metric.matrix();
+        keeps_metric(&g, w) && keeps_moment(w, &self.atoms[0].moment, sign)
     }
 
     /// The same cell again.

@@ -9,6 +9,8 @@ mod cell;
 mod mapping;
 mod metric;
 mod name;
+mod occupant;
+mod places;
 mod steps;
 
 pub use atom::Atom;
@@ -16,4 +18,5 @@ pub use cell::Cell;
 pub use crystal_spec::Sign;
 pub use metric::Metric;
 pub use name::Name;
+pub use places::Places;
 pub use steps::Steps;
