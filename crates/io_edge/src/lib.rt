@@ -6,7 +6,8 @@
 //! the last of them.
 //!
 //! Definitions: `specs/Causes` (when a call may fail), `specs/Reading` and `specs/Writing` (what
-//! was taken and what went out), `specs/InMemory` (what the objects in memory do at each call).
+//! was taken and what went out), `specs/InMemory` (what the objects in memory do at each call),
+//! `specs/Adapters` (what the adapters over std hold).
 #![tactic(auto)]
 
 mod bytes;
@@ -17,6 +18,8 @@ mod sink;
 mod source;
 mod std_sink;
 mod std_source;
+#[cfg(test)]
+mod tests;
 
 pub use bytes::Bytes;
 pub use mem_sink::MemSink;

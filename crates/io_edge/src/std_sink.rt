@@ -20,15 +20,16 @@ pub struct StdSink<W: Write + Drop> {
 impl<W: Write + Drop> Model for StdSink<W> {
     ghost use Rattle.io_edge.specs.Adapters.{WriterSink};
 
-    ghost Value = { WriterSink };
+    ghost Value = { WriterSink W };
 
-    ghost view = { λ s. record { faults = s.faults } };
+    ghost view = { λ s. record { writer = s.writer; faults = s.faults } };
 }
 
 impl<W: Write + Drop> StdSink<W> {
     /// A sink that has not failed. It takes no memory.
     pub fn new(writer: W) -> StdSink<W>
-        ensures { result.faults ≡ 0 }
+        ensures writer { result.writer ≡ writer }
+        ensures faults { result.faults ≡ 0 }
     {
         StdSink { writer, faults: 0 }
     }
@@ -39,11 +40,12 @@ impl<W: Write + Drop> Sink for StdSink<W> {
 
     ghost faults = { λ s. s.faults };
 
-    /// Writes once to the writer.
+    /// Writes once to the writer, which gets the bytes.
     fn write(&mut self, piece: &[u8]) -> Result<usize, Failed>
         requires { 0 < length piece.now }
         ensures some { WritesSome result piece.now }
-        ensures written { WriteAppends None None result piece.now }
+        ensures written { WriteAppends (W.contents self.old.writer) (W.contents self.new.writer)
+            result piece.now }
         ensures cause { HasCause self.old.faults self.new.faults result }
         ensures rises { OnErr result (self.new.faults ≡ min (self.old.faults + 1) (2 ^ 64 - 1)) }
         ensures stays { OnOk result (self.new.faults ≡ self.old.faults) }

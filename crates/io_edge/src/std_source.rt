@@ -19,14 +19,15 @@ pub struct StdSource<R: Read + Drop> {
 impl<R: Read + Drop> Model for StdSource<R> {
     ghost use Rattle.io_edge.specs.Adapters.{ReaderSource};
 
-    ghost Value = { ReaderSource };
+    ghost Value = { ReaderSource R };
 
-    ghost view = { λ s. record { faults = s.faults; end_is_seen = s.end_is_seen } };
+    ghost view = { λ s. record { reader = s.reader; faults = s.faults; end_is_seen = s.end_is_seen } };
 }
 
 impl<R: Read + Drop> StdSource<R> {
     /// A source that has not failed, with no end seen. It takes no memory.
     pub fn new(reader: R) -> StdSource<R>
+        ensures reader { result.reader ≡ reader }
         ensures faults { result.faults ≡ 0 }
         ensures end { result.end_is_seen ≡ false }
     {
@@ -45,11 +46,12 @@ impl<R: Read + Drop> Source for StdSource<R> {
 
     ghost end_is_seen = { λ s. s.end_is_seen };
 
-    /// Reads once from the reader.
+    /// Reads once from the reader, whose bytes it gives.
     fn read(&mut self, buf: &mut [u8]) -> Result<usize, Failed>
         requires { 0 < length buf.old }
         ensures within { ReadsAtMost result buf.new }
-        ensures taken { ReadConsumes None None result buf.new }
+        ensures taken { ReadConsumes (R.remaining self.old.reader) (R.remaining self.new.reader)
+            result buf.new }
         ensures cause { HasCause self.old.faults self.new.faults result }
         ensures end { self.new.end_is_seen ≡ is_end result }
         ensures rises { OnErr result (self.new.faults ≡ min (self.old.faults + 1) (2 ^ 64 - 1)) }
