@@ -11,8 +11,7 @@ mod frac;
 mod int;
 mod residue;
 
-pub use divisor::gcd;
-pub use divisor::lcm_within;
+pub use divisor::{gcd, lcm_within};
 pub use exact::Exact;
 pub use frac::Frac;
 pub use int::Int;
