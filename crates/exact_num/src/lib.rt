@@ -10,6 +10,8 @@ mod exact;
 mod frac;
 mod int;
 mod residue;
+#[cfg(test)]
+mod tests;
 
 pub use divisor::{gcd, lcm_within};
 pub use exact::Exact;
