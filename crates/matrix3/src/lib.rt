@@ -7,6 +7,8 @@
 #![tactic(auto)]
 
 mod matrix;
+#[cfg(test)]
+mod tests;
 mod vector;
 
 pub use matrix::Mat3;

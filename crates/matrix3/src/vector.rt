@@ -1,4 +1,4 @@
-// Columns.
+// Columns of three numbers.
 
 /// A column of three numbers: coordinates along the first, second and third axis.
 #[derive(Clone, Copy, Debug, PartialEq, Eq, PartialOrd, Ord)]
