@@ -1,0 +1,18 @@
+-- Strictly increasing lists of operations with translation parts within one cell.
+use Rattle.std.specs.Prelude.{ℕ, List}
+use Rattle.crystal_spec.specs.Increasing.{IsIncreasing, IsMember}
+use Rattle.crystal_spec.specs.Operations.{Operation, compare_of, IsWithinCell}
+
+-- operations, and the n of their translation parts
+pub record OperationList : Type 0 where
+  pub n : ℕ
+  pub operations : List Operation
+
+-- the translation part of each operation is within one cell
+abbrev pub AllWithinCell : ℕ → List Operation → Type 0
+AllWithinCell n os = (o : Operation) → IsMember o os → IsWithinCell n o.translation
+
+-- the operations are strictly increasing, with translation parts from 0 to n - 1
+pub record IsOperationList (n : ℕ) (os : List Operation) : Type 0 where
+  pub ordered : IsIncreasing compare_of os
+  pub within_cell : AllWithinCell n os

@@ -1,0 +1,110 @@
+ghost use Rattle.std.specs.Prelude.{◌≡◌, ◌↔◌, ◌<◌, ◌≤◌, [], length, map, slice_get, Some, IsTrue, IsOk, IfOk, IfErr, OnOk, OnErr};
+ghost use Rattle.std.specs.List.{insert};
+ghost use Rattle.crystal_spec.specs.Increasing.{IsIncreasing, IsMember, inserted};
+ghost use Rattle.crystal_spec.specs.Operations.{compare_of, IsWithinCell};
+ghost use Rattle.op_group.specs.Views.{operation_of, translation_of};
+ghost use Rattle.op_group.specs.Lists.{AllWithinCell};
+
+use crate::operation::{Op, compare};
+use std::alloc::{AllocError, Global};
+use std::marker::Model;
+
+/// A strictly increasing list of operations whose translation parts are from 0 to n - 1.
+#[derive(Drop)]
+pub struct OpList {
+    n: u32,
+    items: Vec<Op>,
+}
+
+impl Model for OpList {
+    ghost use Rattle.std.specs.Prelude.{map};
+    ghost use Rattle.op_group.specs.Views.{operation_of};
+    ghost use Rattle.op_group.specs.Lists.{OperationList, IsOperationList};
+
+    ghost Value = { OperationList };
+
+    ghost view = { λ l. record { n = l.n; operations = map operation_of l.items.items } };
+
+    ghost invariant = { λ l. IsOperationList l.n (map operation_of l.items.items) };
+}
+
+/// Where an operation is in an increasing list, or where it would go.
+fn place(items: &[Op], op: &Op) -> Result<usize, usize>
+    requires { IsIncreasing compare_of (map operation_of items.now) }
+    ensures found { OnOk result (IsMember (operation_of op.now) (map operation_of items.now)) }
+    ensures absent { OnErr result (¬ (IsMember (operation_of op.now) (map operation_of items.now))) }
+    ensures within { IfErr result (λ at. at ≤ length items.now) }
+    ensures placed { IfErr result (λ at. map operation_of (insert items.now at op.now) ≡ inserted compare_of (operation_of op.now) (map operation_of items.now)) }
+{
+    items.binary_search_by(|item| compare(item, op))
+}
+
+impl OpList {
+    /// The empty list of this n. It takes no memory.
+    pub fn new(alloc: Global, n: u32) -> OpList
+        ensures { result ≡ record { n = n; operations = [] } }
+    {
+        OpList {
+            n,
+            items: Vec::new(alloc),
+        }
+    }
+
+    /// The n of the translation parts.
+    pub fn n(&self) -> u32
+        ensures { result ≡ self.now.n }
+    {
+        self.n
+    }
+
+    /// How many operations there are.
+    pub fn count(&self) -> usize
+        ensures value { result ≡ length self.now.operations }
+        ensures ordered { IsIncreasing compare_of self.now.operations }
+        ensures within_cell { AllWithinCell self.now.n self.now.operations }
+    {
+        self.items.len()
+    }
+
+    /// The operations in order.
+    pub fn ops(&self) -> &[Op]
+        ensures { map operation_of result.now ≡ self.now.operations }
+    {
+        self.items.as_slice()
+    }
+
+    /// The operation at a place, counted from 0.
+    pub fn at(&self, i: usize) -> &Op
+        requires { i < length self.now.operations }
+        ensures { slice_get self.now.operations i ≡ Some (operation_of result.now) }
+    {
+        &self.items[i]
+    }
+
+    /// Whether the operation is in the list.
+    pub fn has(&self, op: &Op) -> bool
+        ensures { IsTrue result ↔ IsMember (operation_of op.now) self.now.operations }
+    {
+        place(&self.items, op).is_ok()
+    }
+
+    /// Puts the operation at its place, and tells whether it was new.
+    ///
+    /// Its translation part is below n. Where it was there, nothing changes; after want of memory too.
+    pub fn insert(&mut self, op: Op) -> Result<bool, AllocError>
+        requires below_n { IsWithinCell self.old.n (translation_of op.shift) }
+        ensures value { OnOk result (self.new.operations ≡ inserted compare_of (operation_of op) self.old.operations) }
+        ensures exact { IfOk result (λ is_new. IsTrue is_new ↔ ¬ (IsMember (operation_of op) self.old.operations)) }
+        ensures succeeds { IsMember (operation_of op) self.old.operations → IsOk result }
+        ensures n { self.new.n ≡ self.old.n }
+        ensures unchanged { OnErr result (self.new ≡ self.old) }
+    {
+        match place(&self.items, &op) {
+            Ok(_) => Ok(false),
+            Err(at) => {
+                self.items.insert(at, op)?;
+                Ok(true)
+            }
+        }
+    }
+}
