@@ -1,0 +1,16 @@
+-- What the adapters of std's readers and writers are.
+--   ReaderSource R   a source over a reader of type R
+--   WriterSink W     a sink over a writer of type W
+-- Our own.
+use Rattle.std.specs.Prelude.{ℕ, Bool}
+
+-- the reader, how often reading failed, and whether the last read saw the end
+pub record ReaderSource (R : Type 0) : Type 0 where
+  pub reader : R
+  pub faults : ℕ
+  pub end_is_seen : Bool
+
+-- the writer, and how often writing failed
+pub record WriterSink (W : Type 0) : Type 0 where
+  pub writer : W
+  pub faults : ℕ
