@@ -10,3 +10,6 @@ mod operation;
 
 pub use list::OpList;
 pub use operation::{Op, compare};
+
+#[cfg(test)]
+mod tests;
