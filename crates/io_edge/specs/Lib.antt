@@ -1,0 +1,5 @@
+pub mod Adapters
+pub mod Causes
+pub mod InMemory
+pub mod Reading
+pub mod Writing

@@ -1,0 +1,26 @@
+-- What reading to the end says.
+--   ReadsAll   all bytes up to the end of input, or why not
+--   GivesUp    the cause of each refusal, and how many bytes were taken before it
+-- Our own.
+use Rattle.std.specs.Prelude.{◌≡◌, ℕ, ◌+◌, ◌≤◌, Bool, true, false, List, length, MatchResult}
+use Rattle.std.specs.declared.option.Option.{Option}
+use Rattle.std.specs.declared.result.Result.{Result}
+use Rattle.std.specs.Io.KnownBytes.{Consumes, IsAtEnd}
+use Rattle.io_edge.specs.Causes.{Rose}
+use Rattle.io_edge.specs.declared.source.InFault.{InFault}
+use Rattle.io_edge.specs.declared.source.InFault.TheVariants.{ReadFault, TooLong, Memory}
+
+-- Why reading gave up once it had taken these bytes: the source failed within the limit, or one byte past the limit came
+-- before an end or a fault, and in both cases no end is seen; or memory was wanted. Never is more than that taken.
+abbrev pub GivesUp : ℕ → ℕ → ℕ → Bool → List ℕ → InFault → Type 0
+GivesUp limit before now end taken ReadFault = (length taken ≤ limit) × Rose before now × (end ≡ false)
+GivesUp limit before now end taken TooLong = (length taken ≡ limit + 1) × (end ≡ false)
+GivesUp limit before now end taken Memory = length taken ≤ limit + 1
+
+-- At Ok the result is all that was left, within the limit, nothing is left now, and the end is seen. A refusal took some
+-- of the first bytes that were left, and has its cause. `left` and `left'` are the bytes left before and after, `before`
+-- and `now` the counts of faults, and `end` whether an end is seen after.
+abbrev pub ReadsAll : ℕ → Option (List ℕ) → Option (List ℕ) → ℕ → ℕ → Bool → Result (List ℕ) InFault → Type 0
+ReadsAll limit left left' before now end result = MatchResult result
+    (λ bytes. Consumes left left' bytes × IsAtEnd left' × (length bytes ≤ limit) × (end ≡ true))
+    (λ fault. (taken : List ℕ) × Consumes left left' taken × GivesUp limit before now end taken fault)

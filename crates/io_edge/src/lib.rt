@@ -1,0 +1,27 @@
+//! Bytes from readers and to writers, with a count of the failures on each side.
+//!
+//! A source or a sink has ghost members that contracts cite: how often it has failed, and, where
+//! it tells them, the bytes that are left or held. A failed call is answered only where that count
+//! rose, so no caller can blame a device that worked. A count is a number of 64 bits, and stays at
+//! the last of them.
+//!
+//! Definitions: `specs/Causes` (when a call may fail), `specs/Reading` and `specs/Writing` (what
+//! was taken and what went out), `specs/InMemory` (what the objects in memory do at each call).
+#![tactic(auto)]
+
+mod bytes;
+mod calls;
+mod mem_sink;
+mod mem_source;
+mod sink;
+mod source;
+mod std_sink;
+mod std_source;
+
+pub use bytes::Bytes;
+pub use mem_sink::MemSink;
+pub use mem_source::MemSource;
+pub use sink::{OutFault, Sink, write_whole};
+pub use source::{Failed, InFault, Source, read_to_end};
+pub use std_sink::StdSink;
+pub use std_source::StdSource;

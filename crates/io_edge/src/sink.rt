@@ -1,0 +1,51 @@
+// What bytes go to, and writing all of them.
+ghost use Rattle.std.specs.Prelude.{◌≡◌, ℕ, List, ◌<◌, ◌≤◌, length};
+ghost use Rattle.std.specs.declared.option.Option.{Option};
+ghost use Rattle.std.specs.Io.KnownBytes.{WriteAppends};
+ghost use Rattle.io_edge.specs.Causes.{HasCause};
+ghost use Rattle.io_edge.specs.Writing.{WritesSome, WritesAll};
+
+use crate::source::Failed;
+
+/// What bytes go to.
+pub trait Sink {
+    /// The bytes that it holds, where it tells them.
+    ghost held: { Self → Option (List ℕ) };
+
+    /// How often it has failed. This never falls.
+    ghost faults: { Self → ℕ };
+
+    /// Appends some first bytes of the piece, which isn't empty, at least one, and says how many.
+    ///
+    /// A device that takes none has failed. A failed write appends nothing.
+    fn write(&mut self, piece: &[u8]) -> Result<usize, Failed>
+        requires { 0 < length piece.now }
+        ensures some { WritesSome result piece.now }
+        ensures written { WriteAppends (held self.old) (held self.new) result piece.now }
+        ensures cause { HasCause (faults self.old) (faults self.new) result };
+}
+
+/// A write failed, once these first bytes were out.
+#[derive(Clone, Copy, Debug, PartialEq, Eq)]
+pub struct OutFault {
+    /// How many of the bytes were appended, fewer than all.
+    pub written: u64,
+}
+
+/// Writes all the bytes, in order. It takes no memory.
+///
+/// After a fault the first `written` bytes are out.
+pub fn write_whole<K: Sink>(sink: &mut K, bytes: &[u8]) -> Result<(), OutFault>
+    ensures written { WritesAll (K.held sink.old) (K.held sink.new)
+        (K.faults sink.old) (K.faults sink.new) bytes.now result }
+    ensures later { K.faults sink.old ≤ K.faults sink.new }
+{
+    let mut at = 0usize;
+    while at < bytes.len() {
+        let Ok(count) = sink.write(&bytes[at..]) else {
+            return Err(OutFault { written: at as u64 });
+        };
+        at += count;
+    }
+    Ok(())
+}

@@ -1,0 +1,70 @@
+// A source over a reader of std.
+ghost use Rattle.std.specs.Prelude.{◌≡◌, ◌+◌, ◌-◌, ◌^◌, ◌<◌, min, length, false, None, OnOk, OnErr};
+ghost use Rattle.std.specs.Io.{ReadsAtMost};
+ghost use Rattle.std.specs.Io.KnownBytes.{ReadConsumes};
+ghost use Rattle.io_edge.specs.Causes.{HasCause, is_end};
+
+use crate::source::{Failed, Source};
+use std::io::Read;
+use std::marker::Model;
+
+/// A source over any reader of std. It tells no bytes, and counts each error.
+#[derive(Drop)]
+pub struct StdSource<R: Read + Drop> {
+    reader: R,
+    faults: u64,
+    end_is_seen: bool,
+}
+
+impl<R: Read + Drop> Model for StdSource<R> {
+    ghost use Rattle.io_edge.specs.Adapters.{ReaderSource};
+
+    ghost Value = { ReaderSource };
+
+    ghost view = { λ s. record { faults = s.faults; end_is_seen = s.end_is_seen } };
+}
+
+impl<R: Read + Drop> StdSource<R> {
+    /// A source that has not failed, with no end seen. It takes no memory.
+    pub fn new(reader: R) -> StdSource<R>
+        ensures faults { result.faults ≡ 0 }
+        ensures end { result.end_is_seen ≡ false }
+    {
+        StdSource {
+            reader,
+            faults: 0,
+            end_is_seen: false,
+        }
+    }
+}
+
+impl<R: Read + Drop> Source for StdSource<R> {
+    ghost left = { λ _. None };
+
+    ghost faults = { λ s. s.faults };
+
+    ghost end_is_seen = { λ s. s.end_is_seen };
+
+    /// Reads once from the reader.
+    fn read(&mut self, buf: &mut [u8]) -> Result<usize, Failed>
+        requires { 0 < length buf.old }
+        ensures within { ReadsAtMost result buf.new }
+        ensures taken { ReadConsumes None None result buf.new }
+        ensures cause { HasCause self.old.faults self.new.faults result }
+        ensures end { self.new.end_is_seen ≡ is_end result }
+        ensures rises { OnErr result (self.new.faults ≡ min (self.old.faults + 1) (2 ^ 64 - 1)) }
+        ensures stays { OnOk result (self.new.faults ≡ self.old.faults) }
+    {
+        match self.reader.read(buf) {
+            Ok(count) => {
+                self.end_is_seen = count == 0;
+                Ok(count)
+            }
+            Err(_) => {
+                self.faults = self.faults.saturating_add(1);
+                self.end_is_seen = false;
+                Err(Failed)
+            }
+        }
+    }
+}
