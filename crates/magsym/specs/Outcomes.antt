@@ -2,6 +2,7 @@
 --   Streams                the input and the output, before and after
 --   ReadWhole s text       all of the input is this text, and its end was seen
 --   SymmetryReport c bytes the lines of all symmetry operations of the crystal c
+--   IsUsage, IsRefusal     the words were outside the rule; no report was begun
 --   Outcome ws s status    what the status says, for these words and streams
 use Rattle.std.specs.Prelude.{◌≡◌, ℕ, ◌<◌, ◌≤◌, Bool, true, false, List, length, take}
 use Rattle.std.specs.declared.option.Option.{Option}
@@ -12,7 +13,7 @@ use Rattle.crystal_spec.specs.Crystals.{Structure}
 use Rattle.crystal_spec.specs.Operations.{Operation, ListsAll}
 use Rattle.cell_text.specs.SimpleForm.{SpellsSimple}
 use Rattle.mag_ops.specs.RightAngled.{IsRightAngled}
-use Rattle.report_text.specs.Text.{report_text}
+use Rattle.report_text.specs.OperationText.{lines_text}
 use Rattle.magsym.specs.declared.command.Command.TheVariants.{Symmetry}
 use Rattle.magsym.specs.declared.status.Kept.TheVariants.{NoBase}
 use Rattle.magsym.specs.declared.status.Status.{Status}
@@ -43,7 +44,7 @@ pub record ReadWhole (s : Streams) (text : List ℕ) : Type 0 where
 pub record SymmetryReport (c : Structure) (bytes : List ℕ) : Type 0 where
   pub operations : List Operation
   pub all : ListsAll c operations
-  pub lines : bytes ≡ report_text c.n operations
+  pub lines : bytes ≡ lines_text c.n operations
 
 -- the input is the text of a cell at right angles, and the report is that of its crystal
 pub record Answers (s : Streams) (report : List ℕ) : Type 0 where
@@ -96,6 +97,28 @@ pub record FailsToRead (s : Streams) : Type 0 where
   pub few : length taken ≤ 262144
   pub unseen : s.end_is_seen ≡ false
   pub cause : Rose s.in_faults s.in_faults_after
+
+-- the words were outside the rule
+abbrev pub IsUsage : Status → Type 0
+IsUsage (Usage fault) = Unit {0}
+IsUsage (Done kept) = ⊥
+IsUsage (WriteFault written kept) = ⊥
+IsUsage NotSimple = ⊥
+IsUsage NotRightAngled = ⊥
+IsUsage CellTooLong = ⊥
+IsUsage ReadFault = ⊥
+IsUsage Memory = ⊥
+
+-- no report was begun
+abbrev pub IsRefusal : Status → Type 0
+IsRefusal (Usage fault) = Unit {0}
+IsRefusal (Done kept) = ⊥
+IsRefusal (WriteFault written kept) = ⊥
+IsRefusal NotSimple = Unit {0}
+IsRefusal NotRightAngled = Unit {0}
+IsRefusal CellTooLong = Unit {0}
+IsRefusal ReadFault = Unit {0}
+IsRefusal Memory = Unit {0}
 
 -- Words outside the rule are always answered so. Behind the other statuses the words ask for `symmetry`; a status other
 -- than Done and WriteFault leaves the output as it was. Want of memory alone is free.
