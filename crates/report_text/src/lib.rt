@@ -1,0 +1,10 @@
+//! The texts of reports, byte for byte.
+//!
+//! Each line of a report ends with LF. A list of symmetry operations is one line an operation, as `-y,x,z+1/2,-1`:
+//! the image of a position x, y, z in three parts, one a coordinate, and the time sign. `specs/OperationText.antt`
+//! says the texts in full.
+#![tactic(auto)]
+
+mod operations;
+
+pub use operations::ops_report;

@@ -1,0 +1,167 @@
+// The lines of symmetry operations.
+ghost use Rattle.std.specs.Prelude.{decimal, ◌≡◌, ◌++◌, ◌∷◌, [], pos, OnOk, IfOk};
+ghost use Rattle.op_group.specs.Views.{operation_of};
+ghost use Rattle.report_text.specs.OperationText.{plus_text, term_text, terms_text, fraction_text, row_text, sign_text, operation_text, operations_text};
+
+use crystal_spec::Sign;
+use exact_num::{Int, gcd};
+use io_edge::Bytes;
+use matrix3::Vec3;
+use op_group::{Op, OpList};
+use std::alloc::{AllocError, Global};
+
+/// Adds a plus, but not before the first term.
+fn push_plus(out: &mut Bytes, is_first: bool) -> Result<(), AllocError>
+    ensures { OnOk result (out.new ≡ out.old ++ plus_text is_first) }
+{
+    if is_first { Ok(()) } else { out.push(b'+') }
+}
+
+/// Adds a number in decimal.
+fn push_number(alloc: Global, out: &mut Bytes, number: u128) -> Result<(), AllocError>
+    ensures { OnOk result (out.new ≡ out.old ++ decimal number) }
+{
+    let digits = number.to_string(alloc)?;
+    out.append(digits.as_bytes())
+}
+
+/// Adds the term of a coefficient and a letter.
+fn push_term(
+    alloc: Global,
+    out: &mut Bytes,
+    is_first: bool,
+    coefficient: i128,
+    letter: u8,
+) -> Result<(), AllocError>
+    ensures { OnOk result (out.new ≡ out.old ++ term_text is_first coefficient letter) }
+{
+    match coefficient {
+        0 => Ok(()),
+        1 => {
+            push_plus(out, is_first)?;
+            out.push(letter)
+        }
+        -1 => {
+            out.push(b'-')?;
+            out.push(letter)
+        }
+        _ => {
+            if coefficient < 0 {
+                out.push(b'-')?;
+            } else {
+                push_plus(out, is_first)?;
+            }
+            push_number(alloc, out, coefficient.unsigned_abs())?;
+            out.push(letter)
+        }
+    }
+}
+
+/// Adds the terms in x, y and z.
+fn push_terms(alloc: Global, out: &mut Bytes, x: i128, y: i128, z: i128) -> Result<(), AllocError>
+    ensures { OnOk result (out.new ≡ out.old ++ terms_text x y z) }
+{
+    push_term(alloc, out, true, x, b'x')?;
+    push_term(alloc, out, x == 0, y, b'y')?;
+    push_term(alloc, out, x == 0 && y == 0, z, b'z')
+}
+
+/// Adds the translation t/n in lowest terms, behind a plus, where it is not 0.
+fn push_fraction(alloc: Global, out: &mut Bytes, n: u32, t: u32) -> Result<(), AllocError>
+    ensures { OnOk result (out.new ≡ out.old ++ fraction_text n t) }
+{
+    if t == 0 {
+        return Ok(());
+    }
+    let divisor = gcd(t, n);
+    out.push(b'+')?;
+    push_number(alloc, out, (t / divisor) as u128)?;
+    out.push(b'/')?;
+    push_number(alloc, out, (n / divisor) as u128)
+}
+
+/// Adds the part of a coordinate: the terms of a row of the matrix, and a translation of t/n.
+fn push_row(
+    alloc: Global,
+    out: &mut Bytes,
+    n: u32,
+    row: Vec3<Int>,
+    t: u32,
+) -> Result<(), AllocError>
+    ensures { OnOk result (out.new ≡ out.old ++ row_text n row.x row.y row.z (pos t)) }
+{
+    push_terms(alloc, out, row.x.get(), row.y.get(), row.z.get())?;
+    push_fraction(alloc, out, n, t)?;
+    Ok(())
+}
+
+/// Adds the time sign.
+fn push_sign(out: &mut Bytes, sign: Sign) -> Result<(), AllocError>
+    ensures { OnOk result (out.new ≡ out.old ++ sign_text sign) }
+{
+    match sign {
+        Sign::Same => out.append(b"+1"),
+        Sign::Reversed => out.append(b"-1"),
+    }
+}
+
+/// Adds the line of an operation.
+fn push_operation(alloc: Global, out: &mut Bytes, n: u32, op: &Op) -> Result<(), AllocError>
+    ensures { OnOk result (out.new ≡ out.old ++ operation_text n (operation_of op.now)) }
+{
+    let w = op.w;
+    let [x, y, z] = op.shift;
+    push_row(
+        alloc,
+        out,
+        n,
+        Vec3 {
+            x: w.a11,
+            y: w.a12,
+            z: w.a13,
+        },
+        x,
+    )?;
+    out.push(b',')?;
+    push_row(
+        alloc,
+        out,
+        n,
+        Vec3 {
+            x: w.a21,
+            y: w.a22,
+            z: w.a23,
+        },
+        y,
+    )?;
+    out.push(b',')?;
+    push_row(
+        alloc,
+        out,
+        n,
+        Vec3 {
+            x: w.a31,
+            y: w.a32,
+            z: w.a33,
+        },
+        z,
+    )?;
+    out.push(b',')?;
+    push_sign(out, op.sign)?;
+    out.push(b'\n')?;
+    Ok(())
+}
+
+/// The lines of the operations of a list, in order.
+///
+/// One line an operation, with LF at the end. Refuses for want of memory alone.
+pub fn ops_report(alloc: Global, list: &OpList) -> Result<Bytes, AllocError>
+    ensures { IfOk result (λ text. text ≡ operations_text list.now) }
+{
+    let n = list.n();
+    let mut out = Bytes::new(alloc);
+    for op in list.ops() {
+        push_operation(alloc, &mut out, n, op)?;
+    }
+    Ok(out)
+}
