@@ -1,8 +1,8 @@
 /// Why a text is refused.
-#[derive(Clone, Copy, Debug, PartialEq, Eq, Drop)]
+#[derive(Clone, Copy, Debug, PartialEq, Eq)]
 pub enum CellError {
     /// The text spells no cell in the simple form.
     NotSimple,
-    /// Memory is wanting.
+    /// There is not enough memory.
     Memory,
 }

@@ -25,10 +25,10 @@ fn has_frame(lines: &Pieces) -> bool
     is_same(lines.at(3), b"end") && lines.at(4).is_empty()
 }
 
-/// The cell that the text spells in the simple form: one atom, at the origin, with the units of metric tensor, positions
-/// and moments all 1.
+/// The cell that the text spells in the simple form: one atom, at the origin.
 ///
-/// Refuses a text that spells no cell, and for want of memory.
+/// The units of its metric tensor, positions and moments are all 1. `NotSimple` comes exactly where the text spells no
+/// such cell, and `Memory` for want of memory.
 pub fn read_cell(alloc: Global, text: &Bytes) -> Result<Cell, CellError>
     ensures value { IfOk result (SpellsSimple text.now) }
     ensures not_simple { result ≡ Err CellError.NotSimple → (c : Structure) → SpellsSimple text.now c → ⊥ }
