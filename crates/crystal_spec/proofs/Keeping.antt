@@ -2,7 +2,7 @@
 -- each is an image.
 use Rattle.std.proofs.Common.{◌≡◌, refl, sym, ap, ◌∙◌, ℕ, List, [], ◌∷◌, ◌++◌, arith}
 use Rattle.std.specs.Prelude.{ℤ, pos, ◌+ℤ◌, ◌-ℤ◌, ◌*ℤ◌, neg_ℤ}
-use Rattle.std.specs.List.{Contains}
+use Rattle.crystal_spec.specs.Increasing.{IsMember}
 use Rattle.std.proofs.lemmas.Int.{ints}
 use Rattle.ring.specs.Ring.{quoted, var, con, ◌:*◌, ◌:-◌}
 use Rattle.matrix3.specs.Matrices.{entries, coordinates, matrix_of_variables, vector_of_variables}
@@ -15,7 +15,7 @@ use Rattle.crystal_spec.proofs.Isometries.{determinant-isometry, cancel_image, c
 
 -- each atom is carried to an occupied position
 abbrev pub HasImages : Structure → Matrix → Triple → ℤ → Type 0
-HasImages c w t sign = (a : Site) → Contains c.sites a → Occupied c a.species (position_after w t a.position) (moment_after w sign a.moment)
+HasImages c w t sign = (a : Site) → IsMember a c.sites → Occupied c a.species (position_after w t a.position) (moment_after w sign a.moment)
 
 -- where an atom comes from
 pub record ComesFrom (c : Structure) (w : Matrix) (t : Triple) (sign : ℤ) (a : Site) : Type 0 where
@@ -27,7 +27,7 @@ pub record ComesFrom (c : Structure) (w : Matrix) (t : Triple) (sign : ℤ) (a :
   pub as_moment : moment_after w sign moment ≡ a.moment
 
 abbrev pub HasPreimages : Structure → Matrix → Triple → ℤ → Type 0
-HasPreimages c w t sign = (a : Site) → Contains c.sites a → ComesFrom c w t sign a
+HasPreimages c w t sign = (a : Site) → IsMember a c.sites → ComesFrom c w t sign a
 
 abbrev pub difference : Triple → Triple → Triple
 difference u v = record { x = u.x -ℤ v.x; y = u.y -ℤ v.y; z = u.z -ℤ v.z }
