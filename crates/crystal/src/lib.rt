@@ -10,7 +10,6 @@ mod mapping;
 mod metric;
 mod name;
 mod occupant;
-mod places;
 mod steps;
 
 pub use atom::Atom;
@@ -18,5 +17,4 @@ pub use cell::Cell;
 pub use crystal_spec::Sign;
 pub use metric::Metric;
 pub use name::Name;
-pub use places::Places;
 pub use steps::Steps;

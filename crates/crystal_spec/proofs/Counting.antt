@@ -1,11 +1,6 @@
 -- Counting: a one-to-one relation from a list without repeats into one that is no longer reaches each member of it.
 use Rattle.std.proofs.Common.{◌≡◌, ℕ, suc, ◌≤◌, ◌⊎◌, inl, inr, List, [], ◌∷◌, ◌++◌, length, refl, sym, ◌∙◌, ap, subst, arith}
-use Rattle.crystal_spec.specs.Increasing.{IsMember}
-
--- no member stands twice
-abbrev pub IsDistinct : {X : Type 0} → List X → Type 0
-IsDistinct [] = Unit {0}
-IsDistinct (x ∷ xs) = (IsMember x xs → ⊥) × IsDistinct xs
+use Rattle.crystal_spec.specs.Increasing.{IsMember, IsDistinct}
 
 -- each member of xs has one in ys, and two of xs have two
 pub record Into {X Y : Type 0} (R : X → Y → Type 0) (xs : List X) (ys : List Y) : Type 0 where

@@ -7,14 +7,14 @@ use Rattle.std.proofs.Math.Nat.{mul-le-mul_left}
 use Rattle.ring.specs.Ring.{quoted, var, con}
 use Rattle.matrix3.specs.Matrices.{coordinates, vector_of_variables}
 use Rattle.matrix3.specs.Matrices as formulas
-use Rattle.crystal_spec.specs.Increasing.{IsMember}
+use Rattle.crystal_spec.specs.Increasing.{IsMember, IsDistinct}
 use Rattle.crystal_spec.specs.Matrices.{Matrix, Triple, determinant, adjugate, image, multiple, sum_of}
 use Rattle.crystal_spec.specs.Crystals.{Site, Structure, IsPositive, Occupied, KeepsMetric, Keeps, position_after, moment_after}
 use Rattle.crystal_spec.specs.Operations.{IsWithinCell}
 use Rattle.crystal_spec.proofs.Entrywise.{triple_same}
 use Rattle.crystal_spec.proofs.Identities.{by_triples}
 use Rattle.crystal_spec.proofs.Isometries.{determinant-isometry}
-use Rattle.crystal_spec.proofs.Counting.{IsDistinct, Into, covered}
+use Rattle.crystal_spec.proofs.Counting.{Into, covered}
 use Rattle.crystal_spec.proofs.Keeping.{HasImages, ComesFrom, HasPreimages, difference, same_cells, keeps_both_ways}
 
 -- the atoms are within one cell, and no two are at one position
