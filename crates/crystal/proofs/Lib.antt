@@ -4,3 +4,4 @@ pub mod Equality
 pub mod Positions
 pub mod Folding
 pub mod CellLemmas
+pub mod ImageLemmas

@@ -1,22 +1,17 @@
-ghost use Rattle.std.specs.Prelude.{◌≡◌, ◌↔◌, IsTrue, ◌+◌, ◌*◌, ◌^◌, ◌<◌, ◌≤◌, ◌*ℤ◌, ◌≤ℤ◌, pos, IfOk, IfSome, IfNone, OnOk, OnErr, [], ◌∷◌, ◌++◌, length, slice_get, slice_index, Some};
+ghost use Rattle.std.specs.Prelude.{◌≡◌, ◌*◌, ◌^◌, ◌<◌, ◌≤◌, ◌≤ℤ◌, pos, IfOk, IfSome, IfNone, OnOk, OnErr, [], ◌∷◌, ◌++◌, length, slice_get, Some};
 ghost use Rattle.crystal_spec.specs.Increasing.{IsMember};
-ghost use Rattle.crystal_spec.specs.Matrices.{Triple, determinant};
-ghost use Rattle.crystal_spec.specs.Crystals.{IsPositive, Keeps};
-ghost use Rattle.crystal_spec.specs.Operations.{IsWithinCell, sign_factor};
+ghost use Rattle.crystal_spec.specs.Crystals.{IsPositive};
+ghost use Rattle.crystal_spec.specs.Operations.{IsWithinCell};
 ghost use Rattle.crystal.specs.Views.{metric_of, site_of, triple_of};
 ghost use Rattle.crystal.specs.Occupants.{IsOccupant, NoneAt};
 ghost use Rattle.crystal.specs.Bounds.{EntriesAtMost, CoordinatesAtMost};
 ghost use Rattle.crystal.specs.Cells.{IsCell, IsSiteOf};
-ghost use Rattle.crystal.specs.Carrying.{HasImage, HaveImages};
 
 use crate::atom::Atom;
-use crate::mapping::{carried_moment, carried_place, keeps_metric};
 use crate::metric::Metric;
 use crate::name::Name;
 use crate::occupant::find_occupant;
-use crystal_spec::Sign;
 use exact_num::Int;
-use matrix3::Mat3;
 use std::alloc::{AllocError, Global};
 use std::marker::Model;
 
@@ -172,7 +167,8 @@ impl Cell {
     /// The atom number i, from 0.
     pub fn atom(&self, i: usize) -> &Atom
         requires { i < length self.now.sites }
-        ensures { slice_get self.now.sites i ≡ Some (site_of result.now) }
+        ensures value { slice_get self.now.sites i ≡ Some (site_of result.now) }
+        ensures form { IsSiteOf (length self.now.names) self.now.n (site_of result.now) }
     {
         &self.atoms[i]
     }
@@ -188,6 +184,7 @@ impl Cell {
     /// The number of the atom at a position, or `None` where no atom is there.
     pub(crate) fn occupant(&self, place: [u32; 3]) -> Option<usize>
         ensures found { IfSome result (IsOccupant self.now.sites (triple_of place)) }
+        ensures below { IfSome result (λ i. i < length self.now.sites) }
         ensures absent { IfNone result (NoneAt (triple_of place) self.now.sites) }
     {
         find_occupant(&self.atoms, place)

@@ -5,11 +5,13 @@
 #![tactic(auto)]
 
 mod atom;
+mod carrying;
 mod cell;
 mod mapping;
 mod metric;
 mod name;
 mod occupant;
+mod places;
 mod steps;
 
 pub use atom::Atom;
@@ -17,4 +19,5 @@ pub use cell::Cell;
 pub use crystal_spec::Sign;
 pub use metric::Metric;
 pub use name::Name;
+pub use places::Places;
 pub use steps::Steps;

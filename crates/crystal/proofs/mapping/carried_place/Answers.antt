@@ -6,6 +6,7 @@ use Rattle.crystal.specs.Views.{triple_of}
 use Rattle.crystal.specs.Bounds.{CoordinatesAtMost}
 use Rattle.crystal.specs.Carrying.{FoldsTo}
 use Rattle.crystal.proofs.Ranges.{image_fits, at_most_image, coordinates_grown}
+use Rattle.crystal.proofs.Folding.{folds_to}
 use Rattle.crystal.proofs.mapping.carried_place.Goals as goal
 
 pub apply-image-requires-clause-fits : goal.apply-image-requires-clause-fits
@@ -24,4 +25,7 @@ folded-requires-3-clause-size c =
     (coordinates_grown {v = c.apply-image.result} (lit≤ tt) (subst (CoordinatesAtMost (150000000 * 2 ^ 32 + 150000000 * 2 ^ 32 + 150000000 * 2 ^ 32)) (sym c.apply-image.ensures.value) (at_most_image 150000000 (2 ^ 32) _ _ c.requires.map c.column.ensures.size))).z
 
 pub returns : goal.returns
-returns c = ?
+returns c = folds_to c.args.n c.args.w.now (triple_of c.args.shift) (triple_of c.args.place) c.apply-image.result c.folded.result c.folded-2.result c.folded-3.result
+    (c.apply-image.ensures.value ∙ ap (image c.args.w.now) c.column.ensures.value)
+    c.folded.ensures.below c.folded-2.ensures.below c.folded-3.ensures.below
+    c.folded.ensures.same c.folded-2.ensures.same c.folded-3.ensures.same
