@@ -1,6 +1,6 @@
 ghost use Rattle.std.specs.Prelude.{◌≡◌, ◌↔◌, ◌+◌, ◌*◌, ◌^◌, ◌<◌, ◌≤◌, ℤ, ◌+ℤ◌, ◌*ℤ◌, pos, IsTrue};
 ghost use Rattle.ring.specs.Size.{AtMost};
-ghost use Rattle.crystal_spec.specs.Matrices.{determinant, multiple};
+ghost use Rattle.crystal_spec.specs.Matrices.{determinant, difference, image, multiple};
 ghost use Rattle.crystal_spec.specs.Crystals.{KeepsMetric, position_after, moment_after};
 ghost use Rattle.crystal_spec.specs.Operations.{sign_factor};
 ghost use Rattle.crystal.specs.Views.{triple_of};
@@ -102,5 +102,22 @@ pub(crate) fn carried_place(w: &Mat3<Int>, shift: [u32; 3], place: [u32; 3], n: 
         folded(image.x, shift[0], n),
         folded(image.y, shift[1], n),
         folded(image.z, shift[2], n),
+    ]
+}
+
+/// The translation part with which the matrix carries one position onto another, but for whole cells.
+///
+/// Positions and translation parts are in units of 1/n, with n from 1 to 10^6.
+pub fn translation_onto(w: &Mat3<Int>, from: [u32; 3], onto: [u32; 3], n: u32) -> [u32; 3]
+    requires map { EntriesAtMost 150000000 w.now }
+    requires at_least { 1 ≤ n }
+    requires at_most { n ≤ 10 ^ 6 }
+    ensures { FoldsTo n (difference (triple_of onto) (image w.now (triple_of from))) (triple_of result) }
+{
+    let image = w.apply(&column(from));
+    [
+        folded(-image.x, onto[0], n),
+        folded(-image.y, onto[1], n),
+        folded(-image.z, onto[2], n),
     ]
 }

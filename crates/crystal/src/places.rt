@@ -7,7 +7,6 @@ ghost use Rattle.crystal.specs.Occupants.{IsOccupant, NoneAt};
 
 use crate::carrying::have_images;
 use crate::cell::Cell;
-use crate::mapping::keeps_metric;
 use crate::steps::Steps;
 use crystal_spec::Sign;
 use exact_num::Int;
@@ -77,6 +76,6 @@ impl Places {
         steps.tick();
         let cell = &self.cell;
         let _form = cell.count();
-        keeps_metric(&cell.metric().matrix(), w) && have_images(cell, w, shift, sign)
+        cell.metric().is_kept_by(w) && have_images(cell, w, shift, sign)
     }
 }

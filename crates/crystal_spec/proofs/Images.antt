@@ -8,14 +8,14 @@ use Rattle.ring.specs.Ring.{quoted, var, con}
 use Rattle.matrix3.specs.Matrices.{coordinates, vector_of_variables}
 use Rattle.matrix3.specs.Matrices as formulas
 use Rattle.crystal_spec.specs.Increasing.{IsMember, IsDistinct}
-use Rattle.crystal_spec.specs.Matrices.{Matrix, Triple, determinant, adjugate, image, multiple, sum_of}
+use Rattle.crystal_spec.specs.Matrices.{Matrix, Triple, determinant, adjugate, image, multiple, sum_of, difference}
 use Rattle.crystal_spec.specs.Crystals.{Site, Structure, IsPositive, Occupied, KeepsMetric, Keeps, position_after, moment_after}
 use Rattle.crystal_spec.specs.Operations.{IsWithinCell}
 use Rattle.crystal_spec.proofs.Entrywise.{triple_same}
 use Rattle.crystal_spec.proofs.Identities.{by_triples}
 use Rattle.crystal_spec.proofs.Isometries.{determinant-isometry}
 use Rattle.crystal_spec.proofs.Counting.{Into, covered}
-use Rattle.crystal_spec.proofs.Keeping.{HasImages, ComesFrom, HasPreimages, difference, same_cells, keeps_both_ways}
+use Rattle.crystal_spec.proofs.Keeping.{HasImages, ComesFrom, HasPreimages, same_cells, keeps_both_ways}
 
 -- the atoms are within one cell, and no two are at one position
 pub record IsApart (c : Structure) : Type 0 where
@@ -33,7 +33,8 @@ same_remainder n p q (negsuc k) a b c d e =
     let more : n * 1 ≤ n * suc k = mul-le-mul_left n (omega arith) in
     absurd (omega (arith, ints))
 
-same_within : (n : ℕ) (p q k : Triple) → IsWithinCell n p → IsWithinCell n q → p ≡ sum_of q (multiple (pos n) k) → p ≡ q
+-- so are two positions within the cell
+pub same_within : (n : ℕ) (p q k : Triple) → IsWithinCell n p → IsWithinCell n q → p ≡ sum_of q (multiple (pos n) k) → p ≡ q
 same_within n p q k a b e = triple_same
     (same_remainder n p.x q.x k.x a.x.0 a.x.1 b.x.0 b.x.1 (ap (λ (v : Triple). v.x) e))
     (same_remainder n p.y q.y k.y a.y.0 a.y.1 b.y.0 b.y.1 (ap (λ (v : Triple). v.y) e))

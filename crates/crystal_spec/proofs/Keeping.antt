@@ -7,7 +7,7 @@ use Rattle.std.proofs.lemmas.Int.{ints}
 use Rattle.ring.specs.Ring.{quoted, var, con, ◌:*◌, ◌:-◌}
 use Rattle.matrix3.specs.Matrices.{entries, coordinates, matrix_of_variables, vector_of_variables}
 use Rattle.matrix3.specs.Matrices as formulas
-use Rattle.crystal_spec.specs.Matrices.{Matrix, Triple, determinant, adjugate, image, multiple, sum_of}
+use Rattle.crystal_spec.specs.Matrices.{Matrix, Triple, determinant, adjugate, image, multiple, sum_of, difference}
 use Rattle.crystal_spec.specs.Crystals.{Site, Structure, IsPositive, Occupied, KeepsMetric, Keeps, position_after, moment_after}
 use Rattle.crystal_spec.proofs.Entrywise.{triple_same}
 use Rattle.crystal_spec.proofs.Identities.{by_integers, by_triples}
@@ -28,9 +28,6 @@ pub record ComesFrom (c : Structure) (w : Matrix) (t : Triple) (sign : ℤ) (a :
 
 abbrev pub HasPreimages : Structure → Matrix → Triple → ℤ → Type 0
 HasPreimages c w t sign = (a : Site) → IsMember a c.sites → ComesFrom c w t sign a
-
-abbrev pub difference : Triple → Triple → Triple
-difference u v = record { x = u.x -ℤ v.x; y = u.y -ℤ v.y; z = u.z -ℤ v.z }
 
 -- whole cells are carried to whole cells
 pub carried_cells : (w : Matrix) (t a d : Triple) (n : ℤ) → position_after w t (sum_of a (multiple n d)) ≡ sum_of (position_after w t a) (multiple n (image w d))
