@@ -7,7 +7,10 @@ use Rattle.ring.specs.Ring.{quoted, var, con, ◌:*◌}
 use Rattle.matrix3.specs.Matrices.{entries, coordinates, matrix_of_variables, vector_of_variables}
 use Rattle.matrix3.specs.Matrices as formulas
 use Rattle.crystal_spec.specs.Matrices.{Matrix, Triple, product, determinant, transposed, adjugate, image, multiple}
+use Rattle.crystal_spec.specs.declared.Sign.{Sign}
+use Rattle.crystal_spec.specs.declared.Sign.TheVariants.{Same, Reversed}
 use Rattle.crystal_spec.specs.Crystals.{IsPositive, KeepsMetric, moment_after}
+use Rattle.crystal_spec.specs.Operations.{sign_factor}
 use Rattle.crystal_spec.proofs.Identities.{by_integers, by_triples}
 
 pub determinant-transposed : (w : Matrix) → determinant (transposed w) ≡ determinant w
@@ -73,9 +76,18 @@ cancel_multiple a u v one e = sym (once u) ∙ ap (multiple a) e ∙ once v
 pub cancel_image : (w : Matrix) (u v : Triple) → determinant w *ℤ determinant w ≡ pos 1 → image w u ≡ image w v → u ≡ v
 cancel_image w u v one e = cancel_multiple (determinant w) u v one (sym (image-adjugate w u) ∙ ap (image (adjugate w)) e ∙ image-adjugate w v)
 
+-- a time sign as a factor has the square 1
+pub sign_squared : (s : Sign) → sign_factor s *ℤ sign_factor s ≡ pos 1
+sign_squared Same = refl
+sign_squared Reversed = refl
+
+-- so has its product with the determinant
+pub axial_squared : (sign d : ℤ) → sign *ℤ sign ≡ pos 1 → d *ℤ d ≡ pos 1 → (sign *ℤ d) *ℤ (sign *ℤ d) ≡ pos 1
+axial_squared sign d s one = by_integers (sign ∷ d ∷ []) ((var 0 :* var 1) :* (var 0 :* var 1)) ((var 0 :* var 0) :* (var 1 :* var 1)) refl ∙ ap (λ a. a *ℤ (d *ℤ d)) s ∙ ap (λ a. pos 1 *ℤ a) one
+
 -- it takes two moments to two
 pub cancel_moment : (w : Matrix) (sign : ℤ) (u v : Triple) → sign *ℤ sign ≡ pos 1 → determinant w *ℤ determinant w ≡ pos 1 → moment_after w sign u ≡ moment_after w sign v → u ≡ v
 cancel_moment w sign u v s one e = cancel_image w u v one (cancel_multiple (sign *ℤ determinant w) (image w u) (image w v) both e)
   where
     both : (sign *ℤ determinant w) *ℤ (sign *ℤ determinant w) ≡ pos 1
-    both = by_integers (sign ∷ determinant w ∷ []) ((var 0 :* var 1) :* (var 0 :* var 1)) ((var 0 :* var 0) :* (var 1 :* var 1)) refl ∙ ap (λ a. a *ℤ (determinant w *ℤ determinant w)) s ∙ ap (λ a. pos 1 *ℤ a) one
+    both = axial_squared sign (determinant w) s one

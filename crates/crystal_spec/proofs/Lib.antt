@@ -1,4 +1,5 @@
 pub mod Entrywise
 pub mod Identities
 pub mod Isometries
+pub mod Keeping
 pub mod Ordered

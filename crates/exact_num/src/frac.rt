@@ -3,7 +3,7 @@
 ghost use Rattle.std.specs.Prelude.{◌≡◌, ◌≢◌, ◌^◌, ◌*◌, ◌↔◌, ◌<ℤ◌, pos, int_div, unsigned_abs, IfSome, IsSome};
 ghost use Rattle.ring.specs.Size.{AtMost};
 ghost use Rattle.numbers.specs.Gcd.{gcd as greatest};
-ghost use Rattle.numbers.specs.Fraction.{fraction, IsLowest, lowest, plus, multiply, negative, quotient, reciprocal};
+ghost use Rattle.numbers.specs.Fraction.{fraction, IsLowest, lowest, plus, multiply, quotient, reciprocal};
 ghost use Rattle.exact_num.specs.Small.{IsSmall};
 
 use crate::divisor::gcd;
@@ -11,6 +11,8 @@ use crate::exact::Exact;
 use std::ops::{Add, Mul, Neg, Sub};
 
 /// A fraction in lowest terms: numerator of size up to 10^24, denominator from 1 to 10^12.
+///
+/// The operators ask that the result, in lowest terms, is within these bounds.
 #[derive(Clone, Copy, PartialEq, Eq, Debug)]
 pub struct Frac {
     num: i128,
@@ -82,25 +84,32 @@ fn cross(a: i128, b: i128, c: i128, d: i128) -> Option<Frac>
 }
 
 impl Frac {
-    /// The numerator.
+    ghost use Rattle.exact_num.specs.Meanings.{fraction_of};
+
+    /// The numerator in lowest terms, of size up to 10^24.
     pub fn num(&self) -> i128
-        ensures { result ≡ self.now.num }
+        ensures value { result ≡ (fraction_of self.now).numerator }
+        ensures size { AtMost (10 ^ 24) result }
     {
         self.num
     }
 
-    /// The denominator.
+    /// The denominator in lowest terms, from 1 to 10^12.
     pub fn den(&self) -> i128
-        ensures { result ≡ self.now.den }
+        ensures value { result ≡ (fraction_of self.now).denominator }
+        ensures positive { pos 0 <ℤ result }
+        ensures size { AtMost (10 ^ 12) result }
     {
         self.den
     }
 
     /// num / den in lowest terms, or `None` where den is 0 or they pass the bounds.
+    ///
+    /// Asks that num and den are of size up to 10^36.
     pub fn new(num: i128, den: i128) -> Option<Frac>
         requires num_size { AtMost (10 ^ 36) num }
         requires den_size { AtMost (10 ^ 36) den }
-        ensures value { IfSome result (λ r. fraction r.num r.den ≡ quotient num den) }
+        ensures value { IfSome result (λ r. fraction_of r ≡ quotient num den) }
         ensures exact { IsSome result ↔ (den ≢ pos 0) × IsSmall (quotient num den) }
     {
         if den == 0 {
@@ -112,10 +121,10 @@ impl Frac {
         }
     }
 
-    /// The sum, or `None` where it passes the bounds.
+    // The sum, or `None` where it passes the bounds.
     fn sum(&self, other: &Frac) -> Option<Frac>
-        ensures value { IfSome result (λ r. fraction r.num r.den ≡ plus (fraction self.now.num self.now.den) (fraction other.now.num other.now.den)) }
-        ensures exact { IsSome result ↔ IsSmall (plus (fraction self.now.num self.now.den) (fraction other.now.num other.now.den)) }
+        ensures value { IfSome result (λ r. fraction_of r ≡ plus (fraction_of self.now) (fraction_of other.now)) }
+        ensures exact { IsSome result ↔ IsSmall (plus (fraction_of self.now) (fraction_of other.now)) }
     {
         reduce(
             self.num * other.den + other.num * self.den,
@@ -123,18 +132,19 @@ impl Frac {
         )
     }
 
-    /// The product, or `None` where it passes the bounds.
+    // The product, or `None` where it passes the bounds.
     fn product(&self, other: &Frac) -> Option<Frac>
-        ensures value { IfSome result (λ r. fraction r.num r.den ≡ multiply (fraction self.now.num self.now.den) (fraction other.now.num other.now.den)) }
-        ensures exact { IsSome result ↔ IsSmall (multiply (fraction self.now.num self.now.den) (fraction other.now.num other.now.den)) }
+        ensures value { IfSome result (λ r. fraction_of r ≡ multiply (fraction_of self.now) (fraction_of other.now)) }
+        ensures exact { IsSome result ↔ IsSmall (multiply (fraction_of self.now) (fraction_of other.now)) }
     {
         cross(self.num, self.den, other.num, other.den)
     }
 
-    /// The quotient, or `None` where the other is 0 or it passes the bounds.
+    /// The quotient in lowest terms, or `None` where the other is 0 or it passes the bounds.
     pub fn checked_div(&self, other: &Frac) -> Option<Frac>
-        ensures value { IfSome result (λ r. fraction r.num r.den ≡ multiply (fraction self.now.num self.now.den) (reciprocal (fraction other.now.num other.now.den))) }
-        ensures exact { IsSome result ↔ (other.now.num ≢ pos 0) × IsSmall (multiply (fraction self.now.num self.now.den) (reciprocal (fraction other.now.num other.now.den))) }
+        ensures value { IfSome result (λ r. fraction_of r ≡ multiply (fraction_of self.now) (reciprocal (fraction_of other.now))) }
+        ensures exact { IsSome result ↔ ((fraction_of other.now).numerator ≢ pos 0)
+            × IsSmall (multiply (fraction_of self.now) (reciprocal (fraction_of other.now))) }
     {
         if other.num == 0 {
             None
@@ -147,11 +157,16 @@ impl Frac {
 }
 
 impl Add<Frac> for Frac {
+    ghost use Rattle.std.specs.Prelude.{◌≡◌};
+    ghost use Rattle.numbers.specs.Fraction.{plus};
+    ghost use Rattle.exact_num.specs.Small.{IsSmall};
+    ghost use Rattle.exact_num.specs.Meanings.{fraction_of};
+
     type Output = Frac;
 
-    ghost can_add = { λ a b. IsSmall (plus (fraction a.num a.den) (fraction b.num b.den)) };
+    ghost can_add = { λ a b. IsSmall (plus (fraction_of a) (fraction_of b)) };
 
-    ghost add_gives = { λ a b r. fraction r.num r.den ≡ plus (fraction a.num a.den) (fraction b.num b.den) };
+    ghost add_gives = { λ a b r. fraction_of r ≡ plus (fraction_of a) (fraction_of b) };
 
     fn add(self, rhs: Frac) -> Frac {
         self.sum(&rhs).unwrap()
@@ -159,11 +174,16 @@ impl Add<Frac> for Frac {
 }
 
 impl Neg for Frac {
+    ghost use Rattle.std.specs.Prelude.{◌≡◌};
+    ghost use Rattle.numbers.specs.Fraction.{negative};
+    ghost use Rattle.exact_num.specs.Small.{IsSmall};
+    ghost use Rattle.exact_num.specs.Meanings.{fraction_of};
+
     type Output = Frac;
 
-    ghost can_neg = { λ a. IsSmall (negative (fraction a.num a.den)) };
+    ghost can_neg = { λ a. IsSmall (negative (fraction_of a)) };
 
-    ghost neg_gives = { λ a r. fraction r.num r.den ≡ negative (fraction a.num a.den) };
+    ghost neg_gives = { λ a r. fraction_of r ≡ negative (fraction_of a) };
 
     fn neg(self) -> Frac {
         Frac {
@@ -174,11 +194,16 @@ impl Neg for Frac {
 }
 
 impl Sub<Frac> for Frac {
+    ghost use Rattle.std.specs.Prelude.{◌≡◌};
+    ghost use Rattle.numbers.specs.Fraction.{plus, negative};
+    ghost use Rattle.exact_num.specs.Small.{IsSmall};
+    ghost use Rattle.exact_num.specs.Meanings.{fraction_of};
+
     type Output = Frac;
 
-    ghost can_sub = { λ a b. IsSmall (plus (fraction a.num a.den) (negative (fraction b.num b.den))) };
+    ghost can_sub = { λ a b. IsSmall (plus (fraction_of a) (negative (fraction_of b))) };
 
-    ghost sub_gives = { λ a b r. fraction r.num r.den ≡ plus (fraction a.num a.den) (negative (fraction b.num b.den)) };
+    ghost sub_gives = { λ a b r. fraction_of r ≡ plus (fraction_of a) (negative (fraction_of b)) };
 
     fn sub(self, rhs: Frac) -> Frac {
         self.sum(&-rhs).unwrap()
@@ -186,11 +211,16 @@ impl Sub<Frac> for Frac {
 }
 
 impl Mul<Frac> for Frac {
+    ghost use Rattle.std.specs.Prelude.{◌≡◌};
+    ghost use Rattle.numbers.specs.Fraction.{multiply};
+    ghost use Rattle.exact_num.specs.Small.{IsSmall};
+    ghost use Rattle.exact_num.specs.Meanings.{fraction_of};
+
     type Output = Frac;
 
-    ghost can_mul = { λ a b. IsSmall (multiply (fraction a.num a.den) (fraction b.num b.den)) };
+    ghost can_mul = { λ a b. IsSmall (multiply (fraction_of a) (fraction_of b)) };
 
-    ghost mul_gives = { λ a b r. fraction r.num r.den ≡ multiply (fraction a.num a.den) (fraction b.num b.den) };
+    ghost mul_gives = { λ a b r. fraction_of r ≡ multiply (fraction_of a) (fraction_of b) };
 
     fn mul(self, rhs: Frac) -> Frac {
         self.product(&rhs).unwrap()
@@ -199,14 +229,15 @@ impl Mul<Frac> for Frac {
 
 impl Exact for Frac {
     ghost use Rattle.std.specs.Prelude.{ℕ};
-    ghost use Rattle.numbers.specs.Fraction.{Fraction, fraction, fraction_ops, IsLowest};
+    ghost use Rattle.numbers.specs.Fraction.{Fraction, fraction_ops, IsLowest};
     ghost use Rattle.numbers.proofs.FractionRing.{fraction_laws};
     ghost use Rattle.exact_num.specs.Small.{IsSmall};
+    ghost use Rattle.exact_num.specs.Meanings.{fraction_of};
     ghost use Rattle.std.proofs.Common.{refl};
 
     ghost Meaning = { Fraction };
 
-    ghost meaning = { λ a. fraction a.num a.den };
+    ghost meaning = { fraction_of };
 
     ghost modulus = { λ _. 0 };
 

@@ -7,7 +7,9 @@ use crate::exact::Exact;
 use std::marker::Model;
 use std::ops::{Add, Mul, Neg, Sub};
 
-/// An integer of size up to 10^36.
+/// An integer of size up to 10^36. In a contract it is the integer.
+///
+/// The operators ask that the result is within this bound.
 #[derive(Clone, Copy, Debug, PartialEq, Eq, PartialOrd, Ord)]
 pub struct Int {
     value: i128,
@@ -27,7 +29,7 @@ impl Model for Int {
 }
 
 impl Int {
-    /// The number as an `Int`, or `None` where its size passes 10^36.
+    /// v as an `Int`, or `None` where its size passes 10^36.
     pub fn new(v: i128) -> Option<Int>
         ensures value { IfSome result (λ r. r ≡ v) }
         ensures exact { IsSome result ↔ AtMost (10 ^ 36) v }
@@ -41,7 +43,7 @@ impl Int {
         }
     }
 
-    /// The quotient, or `None` where the other is 0 or does not divide.
+    /// The quotient, or `None` where the other is 0 or does not divide this one.
     pub fn div_exact(&self, other: &Int) -> Option<Int>
         ensures value { IfSome result (λ r. r *ℤ other.now ≡ self.now) }
         ensures exact { IsSome result ↔ (other.now ≢ pos 0) × ((q : ℤ) × (q *ℤ other.now ≡ self.now)) }
@@ -57,9 +59,10 @@ impl Int {
         }
     }
 
-    /// The number.
+    /// The number, of size up to 10^36.
     pub fn get(&self) -> i128
-        ensures { result ≡ self.now }
+        ensures value { result ≡ self.now }
+        ensures size { AtMost (10 ^ 36) self.now }
     {
         self.value
     }

@@ -10,9 +10,10 @@ mod exact;
 mod frac;
 mod int;
 mod residue;
+#[cfg(test)]
+mod tests;
 
-pub use divisor::gcd;
-pub use divisor::lcm_within;
+pub use divisor::{gcd, lcm_within};
 pub use exact::Exact;
 pub use frac::Frac;
 pub use int::Int;

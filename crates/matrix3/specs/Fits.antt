@@ -1,9 +1,15 @@
 -- What the formulas ask: that their products and sums are values of the type, all of one modulus.
+--   FiveOfModulus, MatrixOfModulus, VectorOfModulus    each number, entry, coordinate has this modulus
+--   DotFits, AlternatingFits, MinorFits                what one sum of products asks
+--   ProductFits a b      what the matrix product asks
+--   ImageFits a v        what the matrix applied to a column asks
+--   DeterminantFits a    what the determinant by six terms asks
+-- Each names the products and sums in the order in which the formula takes them, from the left.
 use Rattle.std.specs.Prelude.{◌≡◌, ℕ}
 use Rattle.ring.specs.Ring.{Ops}
 use Rattle.matrix3.specs.declared.vector.Vec3.{Vec3}
 use Rattle.matrix3.specs.declared.matrix.Mat3.{Mat3}
-use Rattle.matrix3.specs.Matrices.{dot, alternating, minor, determinant}
+use Rattle.matrix3.specs.Matrices.{dot, alternating, minor}
 
 -- each of the five numbers has this modulus
 pub record FiveOfModulus {T : Type 0} (modulus : T → ℕ) (m : ℕ) (b c x y z : T) : Type 0 where
@@ -34,6 +40,7 @@ pub record VectorOfModulus {T : Type 0} (modulus : T → ℕ) (m : ℕ) (v : Vec
 module _ {R : Type 0} (o : Ops R) (fits : R → Type 0) where
   open o use {◌⊕◌, ◌⊗◌, opp}
 
+  -- for a x + b y + c z
   pub record DotFits (a b c x y z : R) : Type 0 where
     pub first : fits (a ⊗ x)
     pub second : fits (b ⊗ y)
@@ -41,6 +48,7 @@ module _ {R : Type 0} (o : Ops R) (fits : R → Type 0) where
     pub two : fits (a ⊗ x ⊕ b ⊗ y)
     pub three : fits (dot o a b c x y z)
 
+  -- for a x - b y + c z
   pub record AlternatingFits (a b c x y z : R) : Type 0 where
     pub first : fits (a ⊗ x)
     pub second : fits (b ⊗ y)
@@ -48,11 +56,13 @@ module _ {R : Type 0} (o : Ops R) (fits : R → Type 0) where
     pub two : fits (a ⊗ x ⊕ opp (b ⊗ y))
     pub three : fits (alternating o a b c x y z)
 
+  -- for a d - b c
   pub record MinorFits (a b c d : R) : Type 0 where
     pub first : fits (a ⊗ d)
     pub second : fits (b ⊗ c)
     pub difference : fits (minor o a b c d)
 
+  -- for the nine entries of the matrix product
   pub record ProductFits (a b : Mat3 R) : Type 0 where
     pub a11 : DotFits a.a11 a.a12 a.a13 b.a11 b.a21 b.a31
     pub a12 : DotFits a.a11 a.a12 a.a13 b.a12 b.a22 b.a32
@@ -64,11 +74,13 @@ module _ {R : Type 0} (o : Ops R) (fits : R → Type 0) where
     pub a32 : DotFits a.a31 a.a32 a.a33 b.a12 b.a22 b.a32
     pub a33 : DotFits a.a31 a.a32 a.a33 b.a13 b.a23 b.a33
 
+  -- for the three coordinates of a matrix applied to a column
   pub record ImageFits (a : Mat3 R) (v : Vec3 R) : Type 0 where
     pub x : DotFits a.a11 a.a12 a.a13 v.x v.y v.z
     pub y : DotFits a.a21 a.a22 a.a23 v.x v.y v.z
     pub z : DotFits a.a31 a.a32 a.a33 v.x v.y v.z
 
+  -- for the three minors of the first row, and their alternating sum
   pub record DeterminantFits (a : Mat3 R) : Type 0 where
     pub first_minor : MinorFits a.a22 a.a23 a.a32 a.a33
     pub second_minor : MinorFits a.a21 a.a23 a.a31 a.a33

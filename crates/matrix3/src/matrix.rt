@@ -1,3 +1,5 @@
+// Three by three matrices.
+
 ghost use Rattle.std.specs.Prelude.{◌≡◌};
 ghost use Rattle.matrix3.specs.Matrices.{dot, minor, alternating, product, image, transposed, determinant, matrix_map, vector_map};
 ghost use Rattle.matrix3.specs.Fits.{FiveOfModulus, MatrixOfModulus, VectorOfModulus, DotFits, MinorFits, AlternatingFits, ProductFits, ImageFits, DeterminantFits};
@@ -5,7 +7,7 @@ ghost use Rattle.matrix3.specs.Fits.{FiveOfModulus, MatrixOfModulus, VectorOfMod
 use crate::vector::Vec3;
 use exact_num::Exact;
 
-/// A three by three matrix, row by row.
+/// A three by three matrix, row by row: `a12` stands in row 1 and column 2.
 #[derive(Clone, Copy, Debug, PartialEq, Eq, PartialOrd, Ord)]
 pub struct Mat3<T> {
     pub a11: T,
@@ -19,7 +21,7 @@ pub struct Mat3<T> {
     pub a33: T,
 }
 
-/// The sum of three products, a·x + b·y + c·z.
+// The sum of three products, a·x + b·y + c·z.
 fn dot<T: Exact>(a: T, b: T, c: T, x: T, y: T, z: T) -> T
     requires one_modulus { FiveOfModulus T.modulus (T.modulus a) b c x y z }
     requires fits { DotFits (T.ring (T.modulus a)) T.fits (T.meaning a) (T.meaning b) (T.meaning c) (T.meaning x) (T.meaning y) (T.meaning z) }
@@ -29,7 +31,7 @@ fn dot<T: Exact>(a: T, b: T, c: T, x: T, y: T, z: T) -> T
     a * x + b * y + c * z
 }
 
-/// The alternating sum of three products, a·x - b·y + c·z.
+// The alternating sum of three products, a·x - b·y + c·z.
 fn alternating<T: Exact>(a: T, b: T, c: T, x: T, y: T, z: T) -> T
     requires one_modulus { FiveOfModulus T.modulus (T.modulus a) b c x y z }
     requires fits { AlternatingFits (T.ring (T.modulus a)) T.fits (T.meaning a) (T.meaning b) (T.meaning c) (T.meaning x) (T.meaning y) (T.meaning z) }
@@ -39,7 +41,7 @@ fn alternating<T: Exact>(a: T, b: T, c: T, x: T, y: T, z: T) -> T
     a * x - b * y + c * z
 }
 
-/// The two-term determinant of the rows (a, b) and (c, d).
+// The two-term determinant of the rows (a, b) and (c, d).
 fn minor<T: Exact>(a: T, b: T, c: T, d: T) -> T
     requires b { T.modulus b ≡ T.modulus a }
     requires c { T.modulus c ≡ T.modulus a }
@@ -54,7 +56,7 @@ fn minor<T: Exact>(a: T, b: T, c: T, d: T) -> T
 impl<T: Exact> Mat3<T> {
     /// The matrix product: first the other map, then this one.
     ///
-    /// The products and sums of its formula are values of the type, all of one modulus.
+    /// Asks that the products and sums of its nine entries are values of the type, all of one modulus.
     pub fn times(&self, other: &Mat3<T>) -> Mat3<T>
         requires left { MatrixOfModulus T.modulus (T.modulus self.now.a11) self.now }
         requires right { MatrixOfModulus T.modulus (T.modulus self.now.a11) other.now }
@@ -79,7 +81,7 @@ impl<T: Exact> Mat3<T> {
 
     /// The matrix applied to a column.
     ///
-    /// The products and sums of its formula are values of the type, all of one modulus.
+    /// Asks that the products and sums of its three coordinates are values of the type, all of one modulus.
     pub fn apply(&self, v: &Vec3<T>) -> Vec3<T>
         requires left { MatrixOfModulus T.modulus (T.modulus self.now.a11) self.now }
         requires right { VectorOfModulus T.modulus (T.modulus self.now.a11) v.now }
@@ -114,9 +116,9 @@ impl<T: Exact> Mat3<T> {
         }
     }
 
-    /// The determinant, by six terms.
+    /// The determinant, by six terms: the first row times its signed minors.
     ///
-    /// The products and sums of its formula are values of the type, all of one modulus.
+    /// Asks that the products and sums of the formula are values of the type, all of one modulus.
     pub fn handed(&self) -> T
         requires one_modulus { MatrixOfModulus T.modulus (T.modulus self.now.a11) self.now }
         requires fits { DeterminantFits (T.ring (T.modulus self.now.a11)) T.fits (matrix_map T.meaning self.now) }

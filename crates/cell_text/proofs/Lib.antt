@@ -1,0 +1,5 @@
+pub mod Cutting
+pub mod Digits
+pub mod Minors
+pub mod Forms
+pub mod KnownValues

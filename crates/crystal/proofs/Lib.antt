@@ -1,0 +1,5 @@
+pub mod NameLemmas
+pub mod Ranges
+pub mod Equality
+pub mod OneAtom
+pub mod Positions

@@ -1,0 +1,5 @@
+pub mod Names
+pub mod Views
+pub mod Bounds
+pub mod Cells
+pub mod Occupants

@@ -1,0 +1,22 @@
+//! Cells of magnetic crystals, the atoms by position, and the test whether one map keeps the crystal.
+//!
+//! A cell is seen as a `Structure` of crystal_spec: the metric tensor of the axes in units of 1/scale, positions in units
+//! of 1/n and moments in units of 1/k, both along the axes.
+#![tactic(auto)]
+
+mod atom;
+mod cell;
+mod mapping;
+mod metric;
+mod name;
+mod occupant;
+mod places;
+mod steps;
+
+pub use atom::Atom;
+pub use cell::Cell;
+pub use crystal_spec::Sign;
+pub use metric::Metric;
+pub use name::Name;
+pub use places::Places;
+pub use steps::Steps;

@@ -1,0 +1,36 @@
+ghost use Rattle.std.specs.Prelude.{◌≡◌};
+ghost use Rattle.crystal.specs.Views.{metric_of};
+
+use exact_num::Int;
+use matrix3::Mat3;
+
+/// The metric tensor of the axes a, b and c: their scalar products.
+#[derive(Clone, Copy, Debug, PartialEq, Eq)]
+pub struct Metric {
+    pub aa: Int,
+    pub bb: Int,
+    pub cc: Int,
+    pub bc: Int,
+    pub ac: Int,
+    pub ab: Int,
+}
+
+impl Metric {
+    /// The symmetric matrix of the metric tensor: rows (aa ab ac), (ab bb bc), (ac bc cc).
+    pub fn matrix(&self) -> Mat3<Int>
+        ensures { result ≡ metric_of self.now }
+    {
+        let g = *self;
+        Mat3 {
+            a11: g.aa,
+            a12: g.ab,
+            a13: g.ac,
+            a21: g.ab,
+            a22: g.bb,
+            a23: g.bc,
+            a31: g.ac,
+            a32: g.bc,
+            a33: g.cc,
+        }
+    }
+}

@@ -1,0 +1,26 @@
+ghost use Rattle.std.specs.Prelude.{◌≡◌, ◌↔◌, IsTrue, IfSome, IfNone, map};
+ghost use Rattle.crystal.specs.Views.{triple_of, site_of};
+ghost use Rattle.crystal.specs.Occupants.{IsOccupant, NoneAt};
+
+use crate::atom::Atom;
+
+/// Whether the atom is at this position of the cell.
+fn is_at(atom: &Atom, place: [u32; 3]) -> bool
+    ensures { IsTrue result ↔ ((site_of atom.now).position ≡ triple_of place) }
+{
+    let own = atom.place;
+    own == place
+}
+
+/// The number of the first atom at this position, or `None` where no atom is there.
+pub(crate) fn find_occupant(atoms: &[Atom], place: [u32; 3]) -> Option<usize>
+    ensures found { IfSome result (IsOccupant (map site_of atoms.now) (triple_of place)) }
+    ensures absent { IfNone result (NoneAt (triple_of place) (map site_of atoms.now)) }
+{
+    for (i, atom) in atoms.iter().enumerate() {
+        if is_at(atom, place) {
+            return Some(i);
+        }
+    }
+    None
+}

@@ -1,0 +1,78 @@
+ghost use Rattle.std.specs.Prelude.{◌≡◌, ◌↔◌, ◌+◌, ◌<◌, IfOk, IfSome, IfNone, IsTrue, slice_index};
+ghost use Rattle.crystal_spec.specs.Crystals.{Keeps};
+ghost use Rattle.crystal_spec.specs.Operations.{sign_factor};
+ghost use Rattle.crystal.specs.Views.{triple_of};
+ghost use Rattle.crystal.specs.Bounds.{EntriesAtMost};
+ghost use Rattle.crystal.specs.Occupants.{IsOccupant, NoneAt};
+
+use crate::cell::Cell;
+use crate::steps::Steps;
+use crystal_spec::Sign;
+use exact_num::Int;
+use matrix3::Mat3;
+use std::alloc::{AllocError, Global};
+use std::marker::Model;
+use std::sync::ledger::Ledger;
+
+/// The atoms of a cell by position. It keeps a copy of the cell.
+#[derive(Drop)]
+pub struct Places {
+    cell: Cell,
+}
+
+impl Model for Places {
+    ghost use Rattle.crystal_spec.specs.Crystals.{Structure};
+
+    ghost Value = { Structure };
+
+    ghost view = { λ p. p.cell };
+}
+
+impl Places {
+    /// The atoms of this cell by position. Refuses for want of memory alone.
+    pub fn new(alloc: Global, cell: &Cell) -> Result<Places, AllocError>
+        ensures { IfOk result (λ places. places ≡ cell.now) }
+    {
+        let cell = cell.copied(alloc)?;
+        Ok(Places { cell })
+    }
+
+    /// The cell.
+    pub fn cell(&self) -> &Cell
+        ensures { result.now ≡ self.now }
+    {
+        &self.cell
+    }
+
+    /// The number of the atom at a position, in units of 1/n with coordinates below n, or `None` where no atom is there.
+    pub fn occupant(&self, place: [u32; 3]) -> Option<usize>
+        requires x { slice_index place 0 < self.now.n }
+        requires y { slice_index place 1 < self.now.n }
+        requires z { slice_index place 2 < self.now.n }
+        ensures found { IfSome result (IsOccupant self.now.sites (triple_of place)) }
+        ensures absent { IfNone result (NoneAt (triple_of place) self.now.sites) }
+    {
+        self.cell.occupant(place)
+    }
+
+    /// Whether the map of this matrix, translation and time sign keeps the crystal. It counts one step.
+    ///
+    /// The translation is in units of 1/n, with coordinates below n.
+    pub fn keeps_map<L: Ledger>(
+        &self,
+        w: &Mat3<Int>,
+        shift: [u32; 3],
+        sign: Sign,
+        steps: &mut Steps<L>,
+    ) -> bool
+        requires map { EntriesAtMost 150000000 w.now }
+        requires x { slice_index shift 0 < self.now.n }
+        requires y { slice_index shift 1 < self.now.n }
+        requires z { slice_index shift 2 < self.now.n }
+        ensures exact { IsTrue result ↔ Keeps self.now w.now (triple_of shift) (sign_factor sign) }
+        ensures ticks { steps.new ≡ steps.old + 1 }
+    {
+        steps.tick();
+        self.cell.keeps_map(w, sign)
+    }
+}

@@ -1,0 +1,2 @@
+pub mod RightAngledMetrics
+pub mod Found

@@ -1,0 +1,133 @@
+-- What each status of a run says of the words, the input and the output.
+--   Streams                the input and the output, before and after
+--   ReadWhole s text       all of the input is this text, and its end was seen
+--   SymmetryReport c bytes the lines of all symmetry operations of the crystal c
+--   IsUsage, IsRefusal     the words were outside the rule; no report was begun
+--   Outcome ws s status    what the status says, for these words and streams
+use Rattle.std.specs.Prelude.{◌≡◌, ℕ, ◌<◌, ◌≤◌, Bool, true, false, List, length, take}
+use Rattle.std.specs.declared.option.Option.{Option}
+use Rattle.std.specs.declared.result.Result.TheVariants.{Ok, Err}
+use Rattle.std.specs.Io.KnownBytes.{Appends, Consumes, Keeps, IsAtEnd}
+use Rattle.io_edge.specs.Causes.{Rose}
+use Rattle.crystal_spec.specs.Crystals.{Structure}
+use Rattle.crystal_spec.specs.Operations.{Operation, ListsAll}
+use Rattle.cell_text.specs.SimpleForm.{SpellsSimple}
+use Rattle.mag_ops.specs.RightAngled.{IsRightAngled}
+use Rattle.report_text.specs.OperationText.{lines_text}
+use Rattle.magsym.specs.declared.command.Command.TheVariants.{Symmetry}
+use Rattle.magsym.specs.declared.status.Kept.TheVariants.{NoBase}
+use Rattle.magsym.specs.declared.status.Status.{Status}
+use Rattle.magsym.specs.declared.status.Status.TheVariants.{Done, Usage, CellTooLong, NotSimple, NotRightAngled, ReadFault, WriteFault, Memory}
+use Rattle.magsym.specs.Commands.{command}
+
+-- The bytes that are left of the input before and after, its counts of faults, and whether an end is seen after; the bytes
+-- that the output holds before and after, and its counts of faults. Bytes are told by some inputs and outputs alone.
+pub record Streams : Type 0 where
+  pub left : Option (List ℕ)
+  pub left_after : Option (List ℕ)
+  pub in_faults : ℕ
+  pub in_faults_after : ℕ
+  pub end_is_seen : Bool
+  pub held : Option (List ℕ)
+  pub held_after : Option (List ℕ)
+  pub out_faults : ℕ
+  pub out_faults_after : ℕ
+
+-- the text is all that was left, at most 262,144 bytes, nothing is left, and the end is seen
+pub record ReadWhole (s : Streams) (text : List ℕ) : Type 0 where
+  pub taken : Consumes s.left s.left_after text
+  pub none_left : IsAtEnd s.left_after
+  pub seen : s.end_is_seen ≡ true
+  pub short : length text ≤ 262144
+
+-- the bytes are the lines of the list of all symmetry operations
+pub record SymmetryReport (c : Structure) (bytes : List ℕ) : Type 0 where
+  pub operations : List Operation
+  pub all : ListsAll c operations
+  pub lines : bytes ≡ lines_text c.n operations
+
+-- the input is the text of a cell at right angles, and the report is that of its crystal
+pub record Answers (s : Streams) (report : List ℕ) : Type 0 where
+  pub text : List ℕ
+  pub read : ReadWhole s text
+  pub cell : Structure
+  pub spelled : SpellsSimple text cell
+  pub right_angled : IsRightAngled cell.metric
+  pub is_report : SymmetryReport cell report
+
+-- the whole report was appended to the output
+pub record WritesReport (s : Streams) : Type 0 where
+  pub report : List ℕ
+  pub answers : Answers s report
+  pub appended : Appends s.held s.held_after report
+
+-- so many first bytes of the report were appended, fewer than all, and the output failed
+pub record WritesPart (s : Streams) (written : ℕ) : Type 0 where
+  pub report : List ℕ
+  pub answers : Answers s report
+  pub fewer : written < length report
+  pub appended : Appends s.held s.held_after (take written report)
+  pub cause : Rose s.out_faults s.out_faults_after
+
+-- the input was read to its end, and spells no cell of the simple form
+pub record SpellsNoCell (s : Streams) : Type 0 where
+  pub text : List ℕ
+  pub read : ReadWhole s text
+  pub spells_none : (c : Structure) → SpellsSimple text c → ⊥
+
+-- the input was read to its end, and spells a cell whose axes are not at right angles
+pub record SpellsOblique (s : Streams) : Type 0 where
+  pub text : List ℕ
+  pub read : ReadWhole s text
+  pub cell : Structure
+  pub spelled : SpellsSimple text cell
+  pub oblique : IsRightAngled cell.metric → ⊥
+
+-- 262,145 bytes of the input were taken before an end or a fault
+pub record IsTooLong (s : Streams) : Type 0 where
+  pub taken : List ℕ
+  pub consumed : Consumes s.left s.left_after taken
+  pub count : length taken ≡ 262145
+  pub unseen : s.end_is_seen ≡ false
+
+-- the input failed before its end was seen and before it was too long
+pub record FailsToRead (s : Streams) : Type 0 where
+  pub taken : List ℕ
+  pub consumed : Consumes s.left s.left_after taken
+  pub few : length taken ≤ 262144
+  pub unseen : s.end_is_seen ≡ false
+  pub cause : Rose s.in_faults s.in_faults_after
+
+-- the words were outside the rule
+abbrev pub IsUsage : Status → Type 0
+IsUsage (Usage fault) = Unit {0}
+IsUsage (Done kept) = ⊥
+IsUsage (WriteFault written kept) = ⊥
+IsUsage NotSimple = ⊥
+IsUsage NotRightAngled = ⊥
+IsUsage CellTooLong = ⊥
+IsUsage ReadFault = ⊥
+IsUsage Memory = ⊥
+
+-- no report was begun
+abbrev pub IsRefusal : Status → Type 0
+IsRefusal (Usage fault) = Unit {0}
+IsRefusal (Done kept) = ⊥
+IsRefusal (WriteFault written kept) = ⊥
+IsRefusal NotSimple = Unit {0}
+IsRefusal NotRightAngled = Unit {0}
+IsRefusal CellTooLong = Unit {0}
+IsRefusal ReadFault = Unit {0}
+IsRefusal Memory = Unit {0}
+
+-- Words outside the rule are always answered so. Behind the other statuses the words ask for `symmetry`; a status other
+-- than Done and WriteFault leaves the output as it was. Want of memory alone is free.
+abbrev pub Outcome : List (List ℕ) → Streams → Status → Type 0
+Outcome ws s (Usage fault) = command ws ≡ Err fault
+Outcome ws s (Done NoBase) = (command ws ≡ Ok Symmetry) × WritesReport s
+Outcome ws s (WriteFault written NoBase) = (command ws ≡ Ok Symmetry) × WritesPart s written
+Outcome ws s NotSimple = (command ws ≡ Ok Symmetry) × SpellsNoCell s
+Outcome ws s NotRightAngled = (command ws ≡ Ok Symmetry) × SpellsOblique s
+Outcome ws s CellTooLong = (command ws ≡ Ok Symmetry) × IsTooLong s
+Outcome ws s ReadFault = (command ws ≡ Ok Symmetry) × FailsToRead s
+Outcome ws s Memory = command ws ≡ Ok Symmetry

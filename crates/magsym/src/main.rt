@@ -1,0 +1,51 @@
+//! The program magsym: exact magnetic symmetry of crystals.
+//!
+//! `run` does what the words of the command line ask, over any source of bytes and any sinks; its contract says which
+//! report comes for which input, and when each refusal comes. `main` makes the real objects, calls `run` and ends with
+//! the number of its status.
+#![tactic(auto)]
+
+mod command;
+mod run;
+mod status;
+mod tell;
+mod words;
+
+use crate::run::run;
+use crate::status::Status;
+use crate::words::Words;
+use crystal::Steps;
+use io_edge::{Bytes, StdSink, StdSource};
+use std::alloc::{AllocError, Global};
+use std::env;
+use std::io;
+use std::marker::Brand;
+use std::process::ExitCode;
+use std::sync::ledger::Blank;
+
+/// The words behind the program's name; none where they can't be had as text.
+fn words_of<R: Env + AllocGlobal>(rt: &R) -> Result<Words, AllocError> {
+    let mut words = Words::new(rt.alloc());
+    match env::args(rt) {
+        Ok(args) => {
+            for arg in args.skip(1) {
+                words.push(Bytes::copy(rt.alloc(), arg.as_bytes())?)?;
+            }
+            Ok(words)
+        }
+        Err(error) if error.kind() == io::ErrorKind::OutOfMemory => Err(AllocError),
+        Err(_) => Ok(words),
+    }
+}
+
+fn main(rt: HostRuntime) -> ExitCode {
+    let Ok(words) = words_of(&rt) else {
+        return ExitCode::from(Status::Memory.number());
+    };
+    let mut input = StdSource::new(rt.stdin());
+    let mut out = StdSink::new(rt.stdout());
+    let mut err = StdSink::new(rt.stderr());
+    let mut steps = Steps::<Brand>::new(Blank::new(1));
+    let status = run(rt.alloc(), &words, &mut input, &mut out, &mut err, &mut steps);
+    ExitCode::from(status.number())
+}

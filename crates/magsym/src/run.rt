@@ -1,0 +1,100 @@
+ghost use Rattle.std.specs.Prelude.{◌≡◌, ◌≤◌, IfOk, MatchResult, ℕ, List};
+ghost use Rattle.crystal_spec.specs.Crystals.{Structure};
+ghost use Rattle.mag_ops.specs.RightAngled.{IsRightAngled};
+ghost use Rattle.magsym.specs.Statuses.{line_of};
+ghost use Rattle.magsym.specs.Telling.{Tells};
+ghost use Rattle.magsym.specs.Outcomes.{Outcome, SymmetryReport, IsRefusal, IsUsage};
+
+use crate::command::{Command, read_words};
+use crate::status::{Kept, Status};
+use crate::tell::tell;
+use crate::words::Words;
+use cell_text::{CellError, read_cell};
+use crystal::{Cell, Steps};
+use io_edge::{Bytes, InFault, Sink, Source, read_to_end, write_whole};
+use mag_ops::{cell_group, is_right_angled};
+use report_text::ops_report;
+use std::alloc::{AllocError, Global};
+use std::sync::ledger::Ledger;
+
+/// The most bytes that the text of a cell can have.
+const CELL_LIMIT: usize = 262144;
+
+/// The report on all symmetry operations of a cell whose axes are at right angles.
+fn symmetry_report<L: Ledger>(
+    alloc: Global,
+    cell: &Cell,
+    steps: &mut Steps<L>,
+) -> Result<Bytes, AllocError>
+    requires { IsRightAngled cell.now.metric }
+    ensures { IfOk result (SymmetryReport cell.now) }
+{
+    let list = cell_group(alloc, cell, steps)?;
+    ops_report(alloc, &list)
+}
+
+/// The answer to the words, but for the line on the error stream.
+fn answer<I: Source, O: Sink, L: Ledger>(
+    alloc: Global,
+    words: &Words,
+    input: &mut I,
+    out: &mut O,
+    steps: &mut Steps<L>,
+) -> Status
+    ensures outcome { Outcome words.now (record { left = I.left input.old; left_after = I.left input.new; in_faults = I.faults input.old; in_faults_after = I.faults input.new; end_is_seen = I.end_is_seen input.new; held = O.held out.old; held_after = O.held out.new; out_faults = O.faults out.old; out_faults_after = O.faults out.new }) result }
+    ensures input_untouched { IsUsage result → input.new ≡ input.old }
+    ensures out_untouched { IsRefusal result → out.new ≡ out.old }
+    ensures in_later { I.faults input.old ≤ I.faults input.new }
+    ensures out_later { O.faults out.old ≤ O.faults out.new }
+{
+    let Command::Symmetry = match read_words(words) {
+        Ok(command) => command,
+        Err(fault) => return Status::Usage(fault),
+    };
+    let text = match read_to_end(alloc, input, CELL_LIMIT) {
+        Ok(text) => text,
+        Err(InFault::ReadFault) => return Status::ReadFault,
+        Err(InFault::TooLong) => return Status::CellTooLong,
+        Err(InFault::Memory) => return Status::Memory,
+    };
+    let cell = match read_cell(alloc, &text) {
+        Ok(cell) => cell,
+        Err(CellError::NotSimple) => return Status::NotSimple,
+        Err(CellError::Memory) => return Status::Memory,
+    };
+    if !is_right_angled(cell.metric()) {
+        return Status::NotRightAngled;
+    }
+    let Ok(report) = symmetry_report(alloc, &cell, steps) else {
+        return Status::Memory;
+    };
+    match write_whole(out, report.as_slice()) {
+        Ok(()) => Status::Done(Kept::NoBase),
+        Err(fault) => Status::WriteFault(fault.written, Kept::NoBase),
+    }
+}
+
+/// Does what the words ask: reads a cell from the input, writes the report to the output, and where there is none, one
+/// line on why to the error stream.
+///
+/// The words are those behind the program's name. The input is read to its end, or up to one byte past its limit.
+pub fn run<I: Source, O: Sink, E: Sink, L: Ledger>(
+    alloc: Global,
+    words: &Words,
+    input: &mut I,
+    out: &mut O,
+    err: &mut E,
+    steps: &mut Steps<L>,
+) -> Status
+    ensures outcome { Outcome words.now (record { left = I.left input.old; left_after = I.left input.new; in_faults = I.faults input.old; in_faults_after = I.faults input.new; end_is_seen = I.end_is_seen input.new; held = O.held out.old; held_after = O.held out.new; out_faults = O.faults out.old; out_faults_after = O.faults out.new }) result }
+    ensures told { Tells (E.held err.old) (E.held err.new) (E.faults err.old) (E.faults err.new) (line_of result) }
+    ensures input_untouched { IsUsage result → input.new ≡ input.old }
+    ensures out_untouched { IsRefusal result → out.new ≡ out.old }
+    ensures in_later { I.faults input.old ≤ I.faults input.new }
+    ensures out_later { O.faults out.old ≤ O.faults out.new }
+    ensures err_later { E.faults err.old ≤ E.faults err.new }
+{
+    let status = answer(alloc, words, input, out, steps);
+    tell(err, &status);
+    status
+}

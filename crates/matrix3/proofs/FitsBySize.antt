@@ -1,0 +1,126 @@
+-- What the formulas ask of integers, and how large their results are, from the sizes of the entries.
+--   product_fits, product_size            the matrix product
+--   image_fits, image_size                a matrix applied to a column
+--   determinant_fits, determinant_size    the determinant
+-- m bounds the size of each entry of the first matrix, n that of each entry of the second or of the column, and N the
+-- size of a value of the type. At numerals each premise `T (leb .. N)` is `tt`.
+use Rattle.std.proofs.Common.{ℕ, ◌+◌, ◌*◌, ◌≤◌, T, ℤ, arith}
+use Rattle.std.proofs.Math.Dec.{leb}
+use Rattle.std.proofs.Math.Facts.{leb_yes}
+use Rattle.ring.specs.Ring.{int_ops}
+use Rattle.ring.specs.Size.{AtMost}
+use Rattle.ring.proofs.Sizes.{at_most_mul, at_most_add, at_most_neg}
+use Rattle.matrix3.specs.declared.vector.Vec3.{Vec3}
+use Rattle.matrix3.specs.declared.matrix.Mat3.{Mat3}
+use Rattle.matrix3.specs.Matrices.{dot, minor, alternating, product, image, determinant, EachEntry, EachCoordinate}
+use Rattle.matrix3.specs.Fits.{DotFits, MinorFits, AlternatingFits, ProductFits, ImageFits, DeterminantFits}
+
+-- a larger bound
+raise : {m n : ℕ} {z : ℤ} → m ≤ n → AtMost m z → AtMost n z
+raise h k = record { size = omega (arith, h, k.size) }
+
+-- ---- sums of three products
+
+dot_size : {m n : ℕ} {a b c x y z : ℤ} → AtMost m a → AtMost m b → AtMost m c → AtMost n x → AtMost n y → AtMost n z → AtMost (m * n + m * n + m * n) (dot int_ops a b c x y z)
+dot_size a b c x y z = at_most_add (at_most_add (at_most_mul a x) (at_most_mul b y)) (at_most_mul c z)
+
+dot_fits : {m n N : ℕ} {a b c x y z : ℤ} → m * n + m * n + m * n ≤ N → AtMost m a → AtMost m b → AtMost m c → AtMost n x → AtMost n y → AtMost n z → DotFits int_ops (AtMost N) a b c x y z
+dot_fits h a b c x y z = record {
+  first = raise (omega (arith, h)) (at_most_mul a x);
+  second = raise (omega (arith, h)) (at_most_mul b y);
+  third = raise (omega (arith, h)) (at_most_mul c z);
+  two = raise (omega (arith, h)) (at_most_add (at_most_mul a x) (at_most_mul b y));
+  three = raise h (dot_size a b c x y z);
+}
+
+-- ---- the matrix product, and a matrix applied to a column
+
+module _ {m n : ℕ} (a b : Mat3 ℤ) (p : EachEntry (AtMost m) a) (q : EachEntry (AtMost n) b) where
+  -- each entry of the product is at most 3 m n
+  pub product_size : EachEntry (AtMost (m * n + m * n + m * n)) (product int_ops a b)
+  product_size = record {
+    a11 = dot_size p.a11 p.a12 p.a13 q.a11 q.a21 q.a31;
+    a12 = dot_size p.a11 p.a12 p.a13 q.a12 q.a22 q.a32;
+    a13 = dot_size p.a11 p.a12 p.a13 q.a13 q.a23 q.a33;
+    a21 = dot_size p.a21 p.a22 p.a23 q.a11 q.a21 q.a31;
+    a22 = dot_size p.a21 p.a22 p.a23 q.a12 q.a22 q.a32;
+    a23 = dot_size p.a21 p.a22 p.a23 q.a13 q.a23 q.a33;
+    a31 = dot_size p.a31 p.a32 p.a33 q.a11 q.a21 q.a31;
+    a32 = dot_size p.a31 p.a32 p.a33 q.a12 q.a22 q.a32;
+    a33 = dot_size p.a31 p.a32 p.a33 q.a13 q.a23 q.a33;
+  }
+
+  -- the product's terms are at most N where 3 m n is
+  pub product_fits : {N : ℕ} → T (leb (m * n + m * n + m * n) N) → ProductFits int_ops (AtMost N) a b
+  product_fits {N} t =
+      let h : m * n + m * n + m * n ≤ N = leb_yes t in
+      record {
+        a11 = dot_fits h p.a11 p.a12 p.a13 q.a11 q.a21 q.a31;
+        a12 = dot_fits h p.a11 p.a12 p.a13 q.a12 q.a22 q.a32;
+        a13 = dot_fits h p.a11 p.a12 p.a13 q.a13 q.a23 q.a33;
+        a21 = dot_fits h p.a21 p.a22 p.a23 q.a11 q.a21 q.a31;
+        a22 = dot_fits h p.a21 p.a22 p.a23 q.a12 q.a22 q.a32;
+        a23 = dot_fits h p.a21 p.a22 p.a23 q.a13 q.a23 q.a33;
+        a31 = dot_fits h p.a31 p.a32 p.a33 q.a11 q.a21 q.a31;
+        a32 = dot_fits h p.a31 p.a32 p.a33 q.a12 q.a22 q.a32;
+        a33 = dot_fits h p.a31 p.a32 p.a33 q.a13 q.a23 q.a33;
+      }
+
+module _ {m n : ℕ} (a : Mat3 ℤ) (v : Vec3 ℤ) (p : EachEntry (AtMost m) a) (q : EachCoordinate (AtMost n) v) where
+  -- each coordinate of the image is at most 3 m n
+  pub image_size : EachCoordinate (AtMost (m * n + m * n + m * n)) (image int_ops a v)
+  image_size = record {
+    x = dot_size p.a11 p.a12 p.a13 q.x q.y q.z;
+    y = dot_size p.a21 p.a22 p.a23 q.x q.y q.z;
+    z = dot_size p.a31 p.a32 p.a33 q.x q.y q.z;
+  }
+
+  -- the image's terms are at most N where 3 m n is
+  pub image_fits : {N : ℕ} → T (leb (m * n + m * n + m * n) N) → ImageFits int_ops (AtMost N) a v
+  image_fits {N} t =
+      let h : m * n + m * n + m * n ≤ N = leb_yes t in
+      record {
+        x = dot_fits h p.a11 p.a12 p.a13 q.x q.y q.z;
+        y = dot_fits h p.a21 p.a22 p.a23 q.x q.y q.z;
+        z = dot_fits h p.a31 p.a32 p.a33 q.x q.y q.z;
+      }
+
+-- ---- the determinant
+
+minor_size : {m : ℕ} {a b c d : ℤ} → AtMost m a → AtMost m b → AtMost m c → AtMost m d → AtMost (m * m + m * m) (minor int_ops a b c d)
+minor_size a b c d = at_most_add (at_most_mul a d) (at_most_neg (at_most_mul b c))
+
+minor_fits : {m N : ℕ} {a b c d : ℤ} → m * m + m * m ≤ N → AtMost m a → AtMost m b → AtMost m c → AtMost m d → MinorFits int_ops (AtMost N) a b c d
+minor_fits h a b c d = record {
+  first = raise (omega (arith, h)) (at_most_mul a d);
+  second = raise (omega (arith, h)) (at_most_mul b c);
+  difference = raise h (minor_size a b c d);
+}
+
+alternating_size : {m n : ℕ} {a b c x y z : ℤ} → AtMost m a → AtMost m b → AtMost m c → AtMost n x → AtMost n y → AtMost n z → AtMost (m * n + m * n + m * n) (alternating int_ops a b c x y z)
+alternating_size a b c x y z =
+    at_most_add (at_most_add (at_most_mul a x) (at_most_neg (at_most_mul b y))) (at_most_mul c z)
+
+alternating_fits : {m n N : ℕ} {a b c x y z : ℤ} → m * n + m * n + m * n ≤ N → AtMost m a → AtMost m b → AtMost m c → AtMost n x → AtMost n y → AtMost n z → AlternatingFits int_ops (AtMost N) a b c x y z
+alternating_fits h a b c x y z = record {
+  first = raise (omega (arith, h)) (at_most_mul a x);
+  second = raise (omega (arith, h)) (at_most_mul b y);
+  third = raise (omega (arith, h)) (at_most_mul c z);
+  two = raise (omega (arith, h)) (at_most_add (at_most_mul a x) (at_most_neg (at_most_mul b y)));
+  three = raise h (alternating_size a b c x y z);
+}
+
+module _ {m : ℕ} (a : Mat3 ℤ) (p : EachEntry (AtMost m) a) where
+  -- the determinant is at most 6 m³
+  pub determinant_size : AtMost (m * (m * m + m * m) + m * (m * m + m * m) + m * (m * m + m * m)) (determinant int_ops a)
+  determinant_size =
+      alternating_size p.a11 p.a12 p.a13 (minor_size p.a22 p.a23 p.a32 p.a33) (minor_size p.a21 p.a23 p.a31 p.a33) (minor_size p.a21 p.a22 p.a31 p.a32)
+
+  -- the determinant's terms are at most N where 2 m² and 6 m³ are
+  pub determinant_fits : {N : ℕ} → T (leb (m * m + m * m) N) → T (leb (m * (m * m + m * m) + m * (m * m + m * m) + m * (m * m + m * m)) N) → DeterminantFits int_ops (AtMost N) a
+  determinant_fits s t = record {
+    first_minor = minor_fits (leb_yes s) p.a22 p.a23 p.a32 p.a33;
+    second_minor = minor_fits (leb_yes s) p.a21 p.a23 p.a31 p.a33;
+    third_minor = minor_fits (leb_yes s) p.a21 p.a22 p.a31 p.a32;
+    minors = alternating_fits (leb_yes t) p.a11 p.a12 p.a13 (minor_size p.a22 p.a23 p.a32 p.a33) (minor_size p.a21 p.a23 p.a31 p.a33) (minor_size p.a21 p.a22 p.a31 p.a32);
+  }
