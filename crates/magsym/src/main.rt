@@ -11,13 +11,13 @@ mod status;
 mod tell;
 mod words;
 
-use crate::run::run;
+use crate::run::run_counted;
 use crate::status::Status;
 use crate::words::Words;
-use crystal::Steps;
 use io_edge::{Bytes, StdSink, StdSource};
 use std::alloc::{AllocError, Global};
 use std::env;
+use std::rt::Env;
 use std::io;
 use std::marker::Brand;
 use std::process::ExitCode;
@@ -45,7 +45,14 @@ fn main(rt: HostRuntime) -> ExitCode {
     let mut input = StdSource::new(rt.stdin());
     let mut out = StdSink::new(rt.stdout());
     let mut err = StdSink::new(rt.stderr());
-    let mut steps = Steps::<Brand>::new(Blank::new(1));
-    let status = run(rt.alloc(), &words, &mut input, &mut out, &mut err, &mut steps);
+    let blank = Blank::new(1);
+    let status = run_counted::<Brand, _, _, _>(
+        rt.alloc(),
+        blank,
+        &words,
+        &mut input,
+        &mut out,
+        &mut err,
+    );
     ExitCode::from(status.number())
 }

@@ -1,4 +1,4 @@
-ghost use Rattle.std.specs.Prelude.{◌≡◌, ◌≤◌, IfOk, MatchResult, ℕ, List};
+ghost use Rattle.std.specs.Prelude.{◌≡◌, ◌<◌, ◌≤◌, IfOk, MatchResult, ℕ, List};
 ghost use Rattle.crystal_spec.specs.Crystals.{Structure};
 ghost use Rattle.mag_ops.specs.RightAngled.{IsRightAngled};
 ghost use Rattle.magsym.specs.Statuses.{line_of};
@@ -15,7 +15,7 @@ use io_edge::{Bytes, InFault, Sink, Source, read_to_end, write_whole};
 use mag_ops::{cell_group, is_right_angled};
 use report_text::ops_report;
 use std::alloc::{AllocError, Global};
-use std::sync::ledger::Ledger;
+use std::sync::ledger::{Blank, Ledger};
 
 /// The most bytes that the text of a cell can have.
 const CELL_LIMIT: usize = 262144;
@@ -97,4 +97,21 @@ pub fn run<I: Source, O: Sink, E: Sink, L: Ledger>(
     let status = answer(alloc, words, input, out, steps);
     tell(err, &status);
     status
+}
+
+/// The same, over a new counter of steps.
+pub(crate) fn run_counted<L: Ledger, I: Source, O: Sink, E: Sink>(
+    alloc: Global,
+    blank: Blank,
+    words: &Words,
+    input: &mut I,
+    out: &mut O,
+    err: &mut E,
+) -> Status
+    requires name { blank.name ≡ L.name }
+    requires parts { blank.parts ≡ L.parts }
+    requires some { 0 < L.parts }
+{
+    let mut steps = Steps::<L>::new(blank);
+    run(alloc, words, input, out, err, &mut steps)
 }
