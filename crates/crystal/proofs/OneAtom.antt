@@ -26,13 +26,13 @@ any_position p q = (record { x = p.x -ℤ q.x; y = p.y -ℤ q.y; z = p.z -ℤ q.
 -- each position is occupied, by that atom
 occupied_anywhere : (c : Structure) (a : Site) (p : Triple) → IsOneAtom c a → Occupied c a.species p a.moment
 occupied_anywhere c a p one = let d = any_position p a.position in record {
-    site = a;
-    of_cell = subst (λ (l : List Site). Contains l a) (sym one.0) (0, omega arith, refl);
-    same_species = refl;
-    same_moment = refl;
-    cells = d.0;
-    same_position = d.1 ∙ ap (λ n. sum_of a.position (multiple (pos n) d.0)) (sym one.1);
-  }
+  site = a;
+  of_cell = subst (λ (l : List Site). Contains l a) (sym one.0) (0, omega arith, refl);
+  same_species = refl;
+  same_moment = refl;
+  cells = d.0;
+  same_position = d.1 ∙ ap (λ n. sum_of a.position (multiple (pos n) d.0)) (sym one.1);
+}
 
 occupant : (c : Structure) (a : Site) (s : ℕ) (p m : Triple) → IsOneAtom c a → Occupied c s p m → (a.species ≡ s) × (a.moment ≡ m)
 occupant c a s p m one o =
@@ -48,14 +48,16 @@ one_atom_keeps c a w shift sign one p s = (down_to, up_from)
   where
     down_to : Keeps c w shift sign → KeepsMetric c.metric w × (moment_after w sign a.moment ≡ a.moment)
     down_to k = (k.metric, sym ((occupant c a a.species (position_after w shift a.position) (moment_after w sign a.moment) one ((k.crystal a.species a.position a.moment).0 (occupied_anywhere c a a.position one))).1))
+
     up_from : KeepsMetric c.metric w × (moment_after w sign a.moment ≡ a.moment) → Keeps c w shift sign
     up_from h = record {
-        metric = h.0;
-        crystal = λ t q m. (
-          (λ o. let is = occupant c a t q m one o in occupied_as c a t (position_after w shift q) (moment_after w sign m) one is.0 (sym h.1 ∙ ap (moment_after w sign) is.1)),
-          (λ o. let is = occupant c a t (position_after w shift q) (moment_after w sign m) one o in
-            occupied_as c a t q m one is.0 (cancel_moment w sign a.moment m s (determinant-isometry c.metric w p h.0) (h.1 ∙ is.1))));
-      }
+      metric = h.0;
+      crystal = λ t q m. (
+        (λ o. let is = occupant c a t q m one o in occupied_as c a t (position_after w shift q) (moment_after w sign m) one is.0 (sym h.1 ∙ ap (moment_after w sign) is.1)),
+        (λ o. let is = occupant c a t (position_after w shift q) (moment_after w sign m) one o in
+            occupied_as c a t q m one is.0 (cancel_moment w sign a.moment m s (determinant-isometry c.metric w p h.0) (h.1 ∙ is.1))),
+      );
+    }
 
 pub first_site : (atoms : List Atom) (a : Atom) (s : Site) → map site_of atoms ≡ s ∷ [] → a ≡ slice_index_or atoms 0 a → site_of a ≡ s
 first_site [] a s e is = absurd (cc e)

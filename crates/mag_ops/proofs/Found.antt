@@ -77,9 +77,11 @@ kept_added c w sign op old new ew es et keeps is o = subst (λ (l : List Operati
   where
     member : IsMember o (inserted compare_of op old) ↔ ((o ≡ op) ⊎ IsMember o old)
     member = IsMember-inserted compare_exact op old o
+
     into : (o ≡ op) ⊎ IsMember o old → IsKeptAs c w sign o ⊎ IsMember o old
     into (inl p) = inl (record { same_matrix = ap (λ (q : Operation). q.matrix) p ∙ ew; untranslated = ap (λ (q : Operation). q.translation) p ∙ es; same_sign = ap (λ (q : Operation). q.sign) p ∙ et; keeps = keeps })
     into (inr m) = inr m
+
     back : IsKeptAs c w sign o ⊎ IsMember o old → (o ≡ op) ⊎ IsMember o old
     back (inl k) = let m = k.same_matrix ∙ sym ew in let s = k.untranslated ∙ sym es in let t = k.same_sign ∙ sym et in inl (λ i. record { matrix = m i; translation = s i; sign = t i })
     back (inr m) = inr m
@@ -100,20 +102,26 @@ found_more c w k o A B D is old same reversed = ((λ a. from_reversed (reversed.
   where
     this : (s : Sign) → IsKeptAs c w s o → IsFoundBelow c (k + 1) o
     this s h = record { number = k; below = omega arith; kept = subst (λ (m : Matrix). IsKeptAs c m o.sign o) is (subst (λ (t : Sign). IsKeptAs c w t o) (sym h.same_sign) h) }
+
     earlier : IsFoundBelow c k o → IsFoundBelow c (k + 1) o
     earlier f = record { number = f.number; below = omega (arith, f.below); kept = f.kept }
+
     from_same : IsKeptAs c w Same o ⊎ D → IsFoundBelow c (k + 1) o
     from_same (inl h) = this Same h
     from_same (inr d) = earlier (old.0 d)
+
     from_reversed : IsKeptAs c w Reversed o ⊎ B → IsFoundBelow c (k + 1) o
     from_reversed (inl h) = this Reversed h
     from_reversed (inr b) = from_same (same.0 b)
+
     kept : (s : Sign) → o.sign ≡ s → IsKeptAs c (candidate k) s o → A
     kept Same e h = reversed.1 (inr (same.1 (inl (subst (λ (m : Matrix). IsKeptAs c m Same o) (sym is) h))))
     kept Reversed e h = reversed.1 (inl (subst (λ (m : Matrix). IsKeptAs c m Reversed o) (sym is) h))
+
     by_order : (f : IsFoundBelow c (k + 1) o) → (f.number < k) ⊎ (f.number ≡ k) → A
     by_order f (inl p) = reversed.1 (inr (same.1 (inr (old.1 (record { number = f.number; below = p; kept = f.kept })))))
     by_order f (inr e) = kept o.sign refl (subst (λ (n : ℕ). IsKeptAs c (candidate n) o.sign o) e f.kept)
+
     onto : IsFoundBelow c (k + 1) o → A
     onto f = by_order f (below_or (f.number) k (f.below))
 
@@ -134,21 +142,25 @@ positive_diagonal a b c p =
 pub found_all : (c : Structure) (os : List Operation) → IsPositive c.metric → c.n ≡ 1 → IsRightAngled c.metric → c.metric.a21 ≡ c.metric.a12 → c.metric.a31 ≡ c.metric.a13 → c.metric.a32 ≡ c.metric.a23 → IsIncreasing compare_of os →
     ((o : Operation) → IsMember o os ↔ IsFoundBelow c 19683 o) → ListsAll c os
 found_all c os p one r e21 e31 e32 increasing found = record {
-    increasing = increasing;
-    exact = λ o. ((λ m. sound o ((found o).0 m)), (λ s. (found o).1 (complete o s)));
-  }
+  increasing = increasing;
+  exact = λ o. ((λ m. sound o ((found o).0 m)), (λ s. (found o).1 (complete o s)));
+}
   where
     g : Matrix
     g = c.metric
+
     diagonal_is : right.diagonal c.metric.a11 c.metric.a22 c.metric.a33 ≡ c.metric
     diagonal_is = matrix_same refl (sym r.ab) (sym r.ac) (sym (e21 ∙ r.ab)) refl (sym r.bc) (sym (e31 ∙ r.ac)) (sym (e32 ∙ r.bc)) refl
+
     sound : (o : Operation) → IsFoundBelow c 19683 o → IsSymmetryOperation c o
     sound o f = record {
-        translation = subst (λ (t : Triple). IsWithinCell c.n t) (sym f.kept.untranslated) (subst (λ (n : ℕ). IsWithinCell n no_translation) (sym one) (record { x = (omega (arith, ints), omega (arith, ints)); y = (omega (arith, ints), omega (arith, ints)); z = (omega (arith, ints), omega (arith, ints)) }));
-        keeps = subst (λ (t : Triple). Keeps c o.matrix t (sign_factor o.sign)) (sym f.kept.untranslated) (subst (λ (m : Matrix). Keeps c m no_translation (sign_factor o.sign)) (sym f.kept.same_matrix) f.kept.keeps);
-      }
+      translation = subst (λ (t : Triple). IsWithinCell c.n t) (sym f.kept.untranslated) (subst (λ (n : ℕ). IsWithinCell n no_translation) (sym one) (record { x = (omega (arith, ints), omega (arith, ints)); y = (omega (arith, ints), omega (arith, ints)); z = (omega (arith, ints), omega (arith, ints)) }));
+      keeps = subst (λ (t : Triple). Keeps c o.matrix t (sign_factor o.sign)) (sym f.kept.untranslated) (subst (λ (m : Matrix). Keeps c m no_translation (sign_factor o.sign)) (sym f.kept.same_matrix) f.kept.keeps);
+    }
+
     whole_zero : (z : ℤ) → pos 0 ≤ℤ z → z <ℤ pos 1 → z ≡ pos 0
     whole_zero z a b = omega (arith, ints)
+
     complete : (o : Operation) → IsSymmetryOperation c o → IsFoundBelow c 19683 o
     complete o s =
         let positive = subst IsPositive (sym diagonal_is) p in

@@ -10,9 +10,9 @@ use Rattle.mag_ops.proofs.group.all_kept.Goals as goal
 
 pub loop-number-preserved : goal.loop-number-preserved
 loop-number-preserved g c = record {
-    n = c.in_ok-add_kept-2.ensures.n;
-    members = λ o. found_more c.args.places.now _ c.loop-number.number o _ _ _ c.candidate-w.ensures.value (c.loop-number.invariant.members o) (c.in_ok-add_kept.ensures.members o) (c.in_ok-add_kept-2.ensures.members o);
-  }
+  n = c.in_ok-add_kept-2.ensures.n;
+  members = λ o. found_more c.args.places.now _ c.loop-number.number o _ _ _ c.candidate-w.ensures.value (c.loop-number.invariant.members o) (c.in_ok-add_kept.ensures.members o) (c.in_ok-add_kept-2.ensures.members o);
+}
 
 pub returns-clause-exact : goal.returns-clause-exact
 returns-clause-exact g c =
@@ -20,11 +20,11 @@ returns-clause-exact g c =
     let is = c.metric-metric.ensures.value ∙ ap (λ (s : Structure). s.metric) same in
     let ended : c.loop-number.number ≡ 19683 = omega arith in
     found_all c.args.places.now c.loop-number.found.operations
-      (subst (λ (s : Structure). IsPositive s.metric) same c.metric-metric.ensures.positive)
-      (sym (ap (λ (s : Structure). s.n) same) ∙ c.n.ensures.one)
-      c.requires.right_angled
-      (sym (ap (λ (m : Matrix). m.a21) is) ∙ ap (λ (m : Matrix). m.a12) is)
-      (sym (ap (λ (m : Matrix). m.a31) is) ∙ ap (λ (m : Matrix). m.a13) is)
-      (sym (ap (λ (m : Matrix). m.a32) is) ∙ ap (λ (m : Matrix). m.a23) is)
-      c.count-count.ensures.ordered
-      (subst (λ (k : ℕ). (o : Operation) → IsMember o c.loop-number.found.operations ↔ IsFoundBelow c.args.places.now k o) ended c.loop-number.invariant.members)
+    (subst (λ (s : Structure). IsPositive s.metric) same c.metric-metric.ensures.positive)
+    (sym (ap (λ (s : Structure). s.n) same) ∙ c.n.ensures.one)
+    c.requires.right_angled
+    (sym (ap (λ (m : Matrix). m.a21) is) ∙ ap (λ (m : Matrix). m.a12) is)
+    (sym (ap (λ (m : Matrix). m.a31) is) ∙ ap (λ (m : Matrix). m.a13) is)
+    (sym (ap (λ (m : Matrix). m.a32) is) ∙ ap (λ (m : Matrix). m.a23) is)
+    c.count-count.ensures.ordered
+    (subst (λ (k : ℕ). (o : Operation) → IsMember o c.loop-number.found.operations ↔ IsFoundBelow c.args.places.now k o) ended c.loop-number.invariant.members)

@@ -14,7 +14,7 @@ pub keeps_moment-requires-clause-isometry : goal.keeps_moment-requires-clause-is
 keeps_moment-requires-clause-isometry c =
     let kept : KeepsMetric c.matrix-g.result c.args.w.now = search rules in
     determinant-isometry (metric_of c.self.inside.metric) c.args.w.now c.self.invariant.positive
-      (subst (λ (m : Matrix). KeepsMetric m c.args.w.now) c.matrix-g.ensures kept)
+    (subst (λ (m : Matrix). KeepsMetric m c.args.w.now) c.matrix-g.ensures kept)
 
 pub returns-then-keeps_metric : goal.returns-then-keeps_metric
 returns-then-keeps_metric c shift =
@@ -25,4 +25,4 @@ returns-then-keeps_metric c shift =
     let moment = ap (λ (s : Site). s.moment) first in
     let all = one_atom_keeps (structure_of c.self.inside) c.self.invariant.site w shift (sign_factor c.args.sign) (c.self.invariant.only_site, c.self.invariant.one_part) c.self.invariant.positive (sign_squared c.args.sign) in
     subst (λ (s : Structure). IsTrue c.keeps_moment.result ↔ Keeps s w shift (sign_factor c.args.sign)) c.self.view_is
-      (both_parts all metric (subst (λ (m : Triple). IsTrue c.keeps_moment.result ↔ (moment_after w (sign_factor c.args.sign) m ≡ m)) moment c.keeps_moment.ensures))
+    (both_parts all metric (subst (λ (m : Triple). IsTrue c.keeps_moment.result ↔ (moment_after w (sign_factor c.args.sign) m ≡ m)) moment c.keeps_moment.ensures))
