@@ -9,6 +9,8 @@ mod command;
 mod run;
 mod status;
 mod tell;
+#[cfg(test)]
+mod tests;
 mod words;
 
 use crate::run::run_counted;
@@ -16,12 +18,11 @@ use crate::status::Status;
 use crate::words::Words;
 use io_edge::{Bytes, StdSink, StdSource};
 use std::alloc::{AllocError, Global};
-use std::env;
-use std::rt::Env;
-use std::io;
 use std::marker::Brand;
 use std::process::ExitCode;
+use std::rt::Env;
 use std::sync::ledger::Blank;
+use std::{env, io};
 
 /// The words behind the program's name; none where they can't be had as text.
 fn words_of<R: Env + AllocGlobal>(rt: &R) -> Result<Words, AllocError> {

@@ -111,6 +111,13 @@ pub(crate) fn run_counted<L: Ledger, I: Source, O: Sink, E: Sink>(
     requires name { blank.name ≡ L.name }
     requires parts { blank.parts ≡ L.parts }
     requires some { 0 < L.parts }
+    ensures outcome { Outcome words.now (record { left = I.left input.old; left_after = I.left input.new; in_faults = I.faults input.old; in_faults_after = I.faults input.new; end_is_seen = I.end_is_seen input.new; held = O.held out.old; held_after = O.held out.new; out_faults = O.faults out.old; out_faults_after = O.faults out.new }) result }
+    ensures told { Tells (E.held err.old) (E.held err.new) (E.faults err.old) (E.faults err.new) (line_of result) }
+    ensures input_untouched { IsUsage result → input.new ≡ input.old }
+    ensures out_untouched { IsRefusal result → out.new ≡ out.old }
+    ensures in_later { I.faults input.old ≤ I.faults input.new }
+    ensures out_later { O.faults out.old ≤ O.faults out.new }
+    ensures err_later { E.faults err.old ≤ E.faults err.new }
 {
     let mut steps = Steps::<L>::new(blank);
     run(alloc, words, input, out, err, &mut steps)

@@ -1,0 +1,41 @@
+// Words that ask for nothing, and the exit statuses.
+use super::{CUBIC, answer_to};
+use crate::command::UsageFault;
+use crate::status::Status;
+use io_edge::read_to_end;
+use std::test::Fail;
+
+#[test]
+fn faults_in_the_words_leave_the_input(rt: HostRuntime) -> Result<(), Fail> {
+    for (words, fault, line) in [
+        (
+            [].as_slice(),
+            UsageFault::NoCommand,
+            b"magsym: no command\n".as_slice(),
+        ),
+        (
+            [b"help".as_slice()].as_slice(),
+            UsageFault::UnknownCommand,
+            b"magsym: unknown command\n",
+        ),
+        (
+            [b"symmetry".as_slice(), b"--skip=1"].as_slice(),
+            UsageFault::UnknownOption,
+            b"magsym: unknown option\n",
+        ),
+    ] {
+        let mut ran = answer_to(rt.alloc(), words, CUBIC, [0, 0, 0])?;
+        assert_eq!(rt; ran.status, Status::Usage(fault));
+        assert_eq!(rt; ran.status.number(), 2);
+        assert_eq!(rt; ran.out.held(), b"".as_slice());
+        assert_eq!(rt; ran.err.held(), line);
+        let left = read_to_end(rt.alloc(), &mut ran.input, 99)?;
+        assert_eq!(rt; left.as_slice(), CUBIC);
+    }
+    Ok(())
+}
+
+#[test]
+fn want_of_memory_has_a_number_of_its_own(rt: HostRuntime) {
+    assert_eq!(rt; Status::Memory.number(), 7);
+}
