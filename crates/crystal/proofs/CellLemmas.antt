@@ -54,9 +54,15 @@ length_more xs x = length-append xs (x ∷ [])
 -- a cell with one atom more
 pub atom_more : (c : Structure) (x : Site) → IsCell c → IsSiteOf (length c.names) c.n x → NoneAt x.position c.sites → length c.sites < 512 → IsCell (record c { sites = c.sites ++ x ∷ [] })
 atom_more c x h k free few = record {
-  positive = h.positive; symmetric = h.symmetric; entries = h.entries;
-  scale_at_least = h.scale_at_least; scale_at_most = h.scale_at_most;
-  n_at_least = h.n_at_least; n_at_most = h.n_at_most; k_at_least = h.k_at_least; k_at_most = h.k_at_most;
+  positive = h.positive;
+  symmetric = h.symmetric;
+  entries = h.entries;
+  scale_at_least = h.scale_at_least;
+  scale_at_most = h.scale_at_most;
+  n_at_least = h.n_at_least;
+  n_at_most = h.n_at_most;
+  k_at_least = h.k_at_least;
+  k_at_most = h.k_at_most;
   names_differ = h.names_differ;
   some = omega (arith, length_more c.sites x);
   few = omega (arith, length_more c.sites x);
@@ -68,11 +74,19 @@ atom_more c x h k free few = record {
 -- a cell with one name more
 pub name_more : (c : Structure) (name : List ℕ) → IsCell c → (IsMember name c.names → ⊥) → IsCell (record c { names = c.names ++ name ∷ [] })
 name_more c name h new = record {
-  positive = h.positive; symmetric = h.symmetric; entries = h.entries;
-  scale_at_least = h.scale_at_least; scale_at_most = h.scale_at_most;
-  n_at_least = h.n_at_least; n_at_most = h.n_at_most; k_at_least = h.k_at_least; k_at_most = h.k_at_most;
+  positive = h.positive;
+  symmetric = h.symmetric;
+  entries = h.entries;
+  scale_at_least = h.scale_at_least;
+  scale_at_most = h.scale_at_most;
+  n_at_least = h.n_at_least;
+  n_at_most = h.n_at_most;
+  k_at_least = h.k_at_least;
+  k_at_most = h.k_at_most;
   names_differ = distinct_more c.names name h.names_differ new;
-  some = h.some; few = h.few; first = h.first;
+  some = h.some;
+  few = h.few;
+  first = h.first;
   sites = subst (λ (m : ℕ). AreSitesOf m c.n c.sites) (sym (length_more c.names name)) (named_more (length c.names) c.n c.sites h.sites);
   apart = h.apart;
 }

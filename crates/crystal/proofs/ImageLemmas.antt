@@ -30,17 +30,20 @@ occupied_at {T} c cell s p m q i b f o e test = (forth, back)
   where
     same : o.site ≡ b
     same = let k : Some o.site ≡ Some b = sym o.numbered ∙ e in cc k
+
     here : b.position ≡ q
     here = ap (λ (a : Site). a.position) (sym same) ∙ o.here
+
     forth : T → Occupied c s p m
     forth t = record {
-        site = b;
-        of_cell = member_at c.sites i b e;
-        same_species = (test.0 t).0;
-        same_moment = (test.0 t).1;
-        cells = f.cells;
-        same_position = f.same ∙ ap (λ (v : Triple). sum_of v (multiple (pos c.n) f.cells)) (sym here);
-      }
+      site = b;
+      of_cell = member_at c.sites i b e;
+      same_species = (test.0 t).0;
+      same_moment = (test.0 t).1;
+      cells = f.cells;
+      same_position = f.same ∙ ap (λ (v : Triple). sum_of v (multiple (pos c.n) f.cells)) (sym here);
+    }
+
     back : Occupied c s p m → T
     back k =
         let at = occupant_within c (apart_cell c cell) s p q m f.cells f.within f.same k in
@@ -63,6 +66,7 @@ all_images c w t sign (x ∷ xs) h = (h x (inl refl), all_images c w t sign xs (
 
 -- a map keeps the crystal of a cell where it keeps the metric tensor and each atom has an image
 pub keeps_exactly : {T : Type 0} (c : Structure) (w : Matrix) (t : Triple) (sign : ℤ) → IsCell c → sign *ℤ sign ≡ pos 1 → KeepsMetric c.metric w → T ↔ HaveImages c w t sign c.sites → T ↔ Keeps c w t sign
-keeps_exactly c w t sign cell s k test =
-    ((λ h. keeps_by_images c w t sign (apart_cell c cell) cell.positive s k (λ a m. image_member c w t sign c.sites a (test.0 h) m)),
-     (λ h. test.1 (all_images c w t sign c.sites (images_of_keeps c w t sign h))))
+keeps_exactly c w t sign cell s k test = (
+  (λ h. keeps_by_images c w t sign (apart_cell c cell) cell.positive s k (λ a m. image_member c w t sign c.sites a (test.0 h) m)),
+  (λ h. test.1 (all_images c w t sign c.sites (images_of_keeps c w t sign h))),
+)

@@ -33,7 +33,7 @@ member_out y x (f ∷ fs) bs (inr h) = by (member_out y x fs bs h)
 into_rest : {X Y : Type 0} (R : X → Y → Type 0) (x : X) (xs : List X) (y : Y) (fs bs : List Y) → R x y → (IsMember x xs → ⊥) → Into R (x ∷ xs) (fs ++ (y ∷ bs)) → Into R xs (fs ++ bs)
 into_rest {X} {Y} R x xs y fs bs r new m = record {
   right = λ w h. (let k = m.right w (inr h) in go w h k.0 k.1.1 (member_out k.0 y fs bs k.1.0));
-  one_left = λ v w z hv hw. m.one_left v w z (inr hv) (inr hw)
+  one_left = λ v w z hv hw. m.one_left v w z (inr hv) (inr hw);
 }
   where
     go : (w : X) → IsMember w xs → (z : Y) → R w z → (z ≡ y) ⊎ IsMember z (fs ++ bs) → (z : Y) × (IsMember z (fs ++ bs) × R w z)

@@ -58,8 +58,8 @@ occupant_within c apart s p q m k h e o =
         let u = vector_of_variables 6 in
         taken_off a n l ∙ ap (λ (p : Triple). sum_of p (multiple n (multiple (negsuc 0) l))) e
         ∙ by_triples (coordinates b ++ coordinates k ++ coordinates l ++ n ∷ [])
-            (formulas.sum_of quoted (formulas.sum_of quoted x (formulas.multiple quoted (var 9) y)) (formulas.multiple quoted (var 9) (formulas.multiple quoted (con (negsuc 0)) u)))
-            (formulas.sum_of quoted x (formulas.multiple quoted (var 9) (formulas.difference quoted y u))) refl
+        (formulas.sum_of quoted (formulas.sum_of quoted x (formulas.multiple quoted (var 9) y)) (formulas.multiple quoted (var 9) (formulas.multiple quoted (con (negsuc 0)) u)))
+        (formulas.sum_of quoted x (formulas.multiple quoted (var 9) (formulas.difference quoted y u))) refl
 
 -- one atom is carried to another, but for whole cells
 pub record CarriesSite (c : Structure) (w : Matrix) (t : Triple) (sign : ℤ) (a b : Site) : Type 0 where
@@ -82,11 +82,13 @@ keeps_by_images c w t sign apart p s k images = keeps_both_ways c w t sign p s k
   where
     carried : (a : Site) → IsMember a c.sites → (b : Site) × (IsMember b c.sites × CarriesSite c w t sign a b)
     carried a h = let i = images a h in (i.site, (i.of_cell, record { same_species = i.same_species; same_moment = i.same_moment; cells = i.cells; onto = i.same_position }))
+
     one : (a a' b : Site) → IsMember a c.sites → IsMember a' c.sites → CarriesSite c w t sign a b → CarriesSite c w t sign a' b → a ≡ a'
     one a a' b h h' r r' =
         let d = multiple (determinant w) (image (adjugate w) (difference r.cells r'.cells)) in
         apart.told a a' h h' (same_within c.n a.position a'.position d (apart.within a h) (apart.within a' h')
-          (same_cells w t a.position a'.position b.position r.cells r'.cells (pos c.n) (determinant-isometry c.metric w p k) r.onto r'.onto))
+        (same_cells w t a.position a'.position b.position r.cells r'.cells (pos c.n) (determinant-isometry c.metric w p k) r.onto r'.onto))
+
     preimages : HasPreimages c w t sign
     preimages b h =
         let x = covered (CarriesSite c w t sign) c.sites c.sites apart.distinct (omega arith) (record { right = carried; one_left = one }) b h in

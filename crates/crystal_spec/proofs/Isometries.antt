@@ -36,9 +36,9 @@ one_times (negsuc n) (negsuc m) p e = absurd (omega (arith, ints))
 pub determinant-isometry : (g w : Matrix) → IsPositive g → KeepsMetric g w → determinant w *ℤ determinant w ≡ pos 1
 determinant-isometry g w p k =
     one_times (determinant w *ℤ determinant w) (determinant g) p.third
-      (by_integers (determinant w ∷ determinant g ∷ []) (var 0 :* var 0 :* var 1) (var 0 :* (var 1 :* var 0)) refl
-      ∙ sym (determinant-product (transposed w) (product g w) ∙ ap (λ h. h *ℤ determinant (product g w)) (determinant-transposed w) ∙ ap (λ h. determinant w *ℤ h) (determinant-product g w))
-      ∙ ap determinant k)
+    (by_integers (determinant w ∷ determinant g ∷ []) (var 0 :* var 0 :* var 1) (var 0 :* (var 1 :* var 0)) refl
+    ∙ sym (determinant-product (transposed w) (product g w) ∙ ap (λ h. h *ℤ determinant (product g w)) (determinant-transposed w) ∙ ap (λ h. determinant w *ℤ h) (determinant-product g w))
+    ∙ ap determinant k)
 
 -- an integer whose square is 1 is 1 or -1
 pub unit_cases : (h : ℤ) → h *ℤ h ≡ pos 1 → (h ≡ pos 1) ⊎ (h ≡ negsuc 0)

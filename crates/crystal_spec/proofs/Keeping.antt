@@ -37,8 +37,8 @@ carried_cells w t a d n =
     let v = vector_of_variables 12 in
     let s = vector_of_variables 15 in
     by_triples (entries w ++ coordinates a ++ coordinates d ++ coordinates t ++ n ∷ [])
-      (formulas.sum_of quoted (formulas.image quoted m (formulas.sum_of quoted u (formulas.multiple quoted (var 18) v))) s)
-      (formulas.sum_of quoted (formulas.sum_of quoted (formulas.image quoted m u) s) (formulas.multiple quoted (var 18) (formulas.image quoted m v))) refl
+    (formulas.sum_of quoted (formulas.image quoted m (formulas.sum_of quoted u (formulas.multiple quoted (var 18) v))) s)
+    (formulas.sum_of quoted (formulas.sum_of quoted (formulas.image quoted m u) s) (formulas.multiple quoted (var 18) (formulas.image quoted m v))) refl
 
 -- whole cells add up
 pub two_cells : (b e d : Triple) (n : ℤ) → sum_of (sum_of b (multiple n e)) (multiple n d) ≡ sum_of b (multiple n (sum_of e d))
@@ -47,8 +47,8 @@ two_cells b e d n =
     let v = vector_of_variables 3 in
     let s = vector_of_variables 6 in
     by_triples (coordinates b ++ coordinates e ++ coordinates d ++ n ∷ [])
-      (formulas.sum_of quoted (formulas.sum_of quoted u (formulas.multiple quoted (var 9) v)) (formulas.multiple quoted (var 9) s))
-      (formulas.sum_of quoted u (formulas.multiple quoted (var 9) (formulas.sum_of quoted v s))) refl
+    (formulas.sum_of quoted (formulas.sum_of quoted u (formulas.multiple quoted (var 9) v)) (formulas.multiple quoted (var 9) s))
+    (formulas.sum_of quoted u (formulas.multiple quoted (var 9) (formulas.sum_of quoted v s))) refl
 
 -- cells that the adjugate takes back
 brought_back : (w : Matrix) (a d : Triple) (n : ℤ) → image w (sum_of a (multiple n (multiple (determinant w) (image (adjugate w) d)))) ≡ sum_of (image w a) (multiple n (multiple (determinant w *ℤ determinant w) d))
@@ -58,22 +58,24 @@ brought_back w a d n =
     let v = vector_of_variables 12 in
     let h = formulas.determinant quoted m in
     by_triples (entries w ++ coordinates a ++ coordinates d ++ n ∷ [])
-      (formulas.image quoted m (formulas.sum_of quoted u (formulas.multiple quoted (var 15) (formulas.multiple quoted h (formulas.image quoted (formulas.adjugate quoted m) v)))))
-      (formulas.sum_of quoted (formulas.image quoted m u) (formulas.multiple quoted (var 15) (formulas.multiple quoted (h :* h) v))) refl
+    (formulas.image quoted m (formulas.sum_of quoted u (formulas.multiple quoted (var 15) (formulas.multiple quoted h (formulas.image quoted (formulas.adjugate quoted m) v)))))
+    (formulas.sum_of quoted (formulas.image quoted m u) (formulas.multiple quoted (var 15) (formulas.multiple quoted (h :* h) v))) refl
 
 -- two positions that go to one position, but for whole cells, are one but for whole cells
 pub same_cells : (w : Matrix) (t p p' a d d' : Triple) (n : ℤ) → determinant w *ℤ determinant w ≡ pos 1 → position_after w t p ≡ sum_of a (multiple n d) → position_after w t p' ≡ sum_of a (multiple n d') →
     p ≡ sum_of p' (multiple n (multiple (determinant w) (image (adjugate w) (difference d d'))))
 same_cells w t p p' a d d' n one e e' = cancel_image w p (sum_of p' (multiple n (multiple (determinant w) (image (adjugate w) (difference d d'))))) one
     (sym (brought_back w p' (difference d d') n ∙ ap (λ (h : ℤ). sum_of (image w p') (multiple n (multiple h (difference d d')))) one
-      ∙ triple_same (by (image w p').x (image w p).x t.x a.x d.x d'.x (ap (λ (v : Triple). v.x) e) (ap (λ (v : Triple). v.x) e'))
-                    (by (image w p').y (image w p).y t.y a.y d.y d'.y (ap (λ (v : Triple). v.y) e) (ap (λ (v : Triple). v.y) e'))
-                    (by (image w p').z (image w p).z t.z a.z d.z d'.z (ap (λ (v : Triple). v.z) e) (ap (λ (v : Triple). v.z) e'))))
+    ∙ triple_same (by (image w p').x (image w p).x t.x a.x d.x d'.x (ap (λ (v : Triple). v.x) e) (ap (λ (v : Triple). v.x) e'))
+    (by (image w p').y (image w p).y t.y a.y d.y d'.y (ap (λ (v : Triple). v.y) e) (ap (λ (v : Triple). v.y) e'))
+    (by (image w p').z (image w p).z t.z a.z d.z d'.z (ap (λ (v : Triple). v.z) e) (ap (λ (v : Triple). v.z) e'))))
   where
     spread : (d d' : ℤ) → n *ℤ (pos 1 *ℤ (d -ℤ d')) ≡ n *ℤ d -ℤ n *ℤ d'
     spread d d' = by_integers (n ∷ d ∷ d' ∷ []) (var 0 :* (con (pos 1) :* (var 1 :- var 2))) (var 0 :* var 1 :- var 0 :* var 2) refl
+
     linear : (u v t a x y : ℤ) → v +ℤ t ≡ a +ℤ x → u +ℤ t ≡ a +ℤ y → u +ℤ (x -ℤ y) ≡ v
     linear u v t a x y h k = omega (arith, ints)
+
     by : (u v t a d d' : ℤ) → v +ℤ t ≡ a +ℤ n *ℤ d → u +ℤ t ≡ a +ℤ n *ℤ d' → u +ℤ n *ℤ (pos 1 *ℤ (d -ℤ d')) ≡ v
     by u v t a d d' h k = ap (λ z. u +ℤ z) (spread d d') ∙ linear u v t a (n *ℤ d) (n *ℤ d') h k
 
@@ -92,6 +94,7 @@ keeps_both_ways c w t sign p s k images preimages = record { metric = k; crystal
           cells = sum_of i.cells (image w o.cells);
           same_position = ap (position_after w t) o.same_position ∙ carried_cells w t o.site.position o.cells (pos c.n) ∙ ap (λ (v : Triple). sum_of v (multiple (pos c.n) (image w o.cells))) i.same_position ∙ two_cells i.site.position i.cells (image w o.cells) (pos c.n);
         }
+
     back : (species : ℕ) (position moment : Triple) → Occupied c species (position_after w t position) (moment_after w sign moment) → Occupied c species position moment
     back species position moment o =
         let f = preimages o.site o.of_cell in

@@ -5,3 +5,4 @@ pub mod Counting
 pub mod Keeping
 pub mod Images
 pub mod Ordered
+mod KnownValues

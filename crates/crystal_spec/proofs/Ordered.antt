@@ -26,9 +26,10 @@ greater_back t x y e = t.antisymm y x ∙ ap ordering_reverse e
 below_inserted : {X : Type 0} (cmp : X → X → Ordering) → (x y : X) (zs : List X) → cmp y x ≡ Less → IsBelowAll cmp y zs → IsBelowAll cmp y (inserted cmp x zs)
 below_inserted cmp x y [] e h = (e, tt)
 below_inserted cmp x y (z ∷ zs) e h = elim (cmp x z) as (λ o. IsBelowAll cmp y (elim o [ Less ↦ x ∷ z ∷ zs | Equal ↦ z ∷ zs | Greater ↦ z ∷ inserted cmp x zs ])) [
-    Less ↦ (e, h)
+  | Less ↦ (e, h)
   | Equal ↦ h
-  | Greater ↦ (h.0, below_inserted cmp x y zs e h.1) ]
+  | Greater ↦ (h.0, below_inserted cmp x y zs e h.1)
+]
 
 pub IsIncreasing-inserted : {X : Type 0} {cmp : X → X → Ordering} → IsTotalOrder cmp → (x : X) (ys : List X) → IsIncreasing cmp ys → IsIncreasing cmp (inserted cmp x ys)
 IsIncreasing-inserted t x [] h = (tt, tt)
@@ -80,10 +81,10 @@ exact_lists {X} {R} exact (x ∷ xs) (y ∷ ys) e = by (R x y) refl e (exact_lis
 pub compare_total : IsTotalOrder compare_of
 unfolding compare_of
 compare_total = record {
-    antisymm = λ a b. lists.antisymm (order_key a) (order_key b);
-    trans = λ a b c. lists.trans (order_key a) (order_key b) (order_key c);
-    congr = λ a b c. lists.congr (order_key a) (order_key b) (order_key c);
-  }
+  antisymm = λ a b. lists.antisymm (order_key a) (order_key b);
+  trans = λ a b c. lists.trans (order_key a) (order_key b) (order_key c);
+  congr = λ a b c. lists.congr (order_key a) (order_key b) (order_key c);
+}
   where
     lists : IsTotalOrder (slice_cmp int_cmp)
     lists = lists_total int_cmp_total
@@ -151,4 +152,4 @@ increasing_unique t (x ∷ xs) [] h k same = absurd ((same x).0 (inl refl))
 increasing_unique {X} {cmp} t (x ∷ xs) (y ∷ ys) h k same =
     let e = first_same cmp t x y xs ys h.0 k.0 ((same x).0 (inl refl)) ((same y).1 (inl refl)) in
     ap (λ z. z ∷ xs) e ∙ ap (λ zs. y ∷ zs) (increasing_unique t xs ys h.1 k.1
-      (λ z. ((λ m. tail_member cmp t x y z xs ys e h.0 m ((same z).0 (inr m))), (λ m. tail_member cmp t y x z ys xs (sym e) k.0 m ((same z).1 (inr m))))))
+    (λ z. ((λ m. tail_member cmp t x y z xs ys e h.0 m ((same z).0 (inr m))), (λ m. tail_member cmp t y x z ys xs (sym e) k.0 m ((same z).1 (inr m))))))

@@ -32,9 +32,11 @@ kept_added c op old new keeps is o = subst (λ (l : List Operation). IsMember o 
   where
     member : IsMember o (inserted compare_of op old) ↔ ((o ≡ op) ⊎ IsMember o old)
     member = IsMember-inserted compare_exact op old o
+
     into : (o ≡ op) ⊎ IsMember o old → IsKeptAs c op.matrix op.translation op.sign o ⊎ IsMember o old
     into (inl p) = inl (record { same_matrix = ap (λ (q : Operation). q.matrix) p; same_translation = ap (λ (q : Operation). q.translation) p; same_sign = ap (λ (q : Operation). q.sign) p; keeps = keeps })
     into (inr m) = inr m
+
     back : IsKeptAs c op.matrix op.translation op.sign o ⊎ IsMember o old → (o ≡ op) ⊎ IsMember o old
     back (inl k) = let m = k.same_matrix in let s = k.same_translation in let t = k.same_sign in inl (λ i. record { matrix = m i; translation = s i; sign = t i })
     back (inr m) = inr m
@@ -60,6 +62,7 @@ folds_once n p q r f g = same_within n q r (difference g.cells f.cells) f.within
         let x = vector_of_variables 0 in
         let y = vector_of_variables 3 in
         by_triples (coordinates a ++ coordinates l ++ n ∷ []) x (formulas.sum_of quoted (formulas.sum_of quoted x (formulas.multiple quoted (var 6) y)) (formulas.multiple quoted (var 6) (formulas.multiple quoted (con (negsuc 0)) y))) refl
+
     taken : (a b l k : Triple) (n : ℤ) → sum_of a (multiple n l) ≡ sum_of b (multiple n k) → a ≡ sum_of b (multiple n (difference k l))
     taken a b l k n e =
         let x = vector_of_variables 0 in
@@ -67,8 +70,8 @@ folds_once n p q r f g = same_within n q r (difference g.cells f.cells) f.within
         let u = vector_of_variables 6 in
         taken_off a l n ∙ ap (λ (p : Triple). sum_of p (multiple n (multiple (negsuc 0) l))) e
         ∙ by_triples (coordinates b ++ coordinates k ++ coordinates l ++ n ∷ [])
-            (formulas.sum_of quoted (formulas.sum_of quoted x (formulas.multiple quoted (var 9) y)) (formulas.multiple quoted (var 9) (formulas.multiple quoted (con (negsuc 0)) u)))
-            (formulas.sum_of quoted x (formulas.multiple quoted (var 9) (formulas.difference quoted y u))) refl
+        (formulas.sum_of quoted (formulas.sum_of quoted x (formulas.multiple quoted (var 9) y)) (formulas.multiple quoted (var 9) (formulas.multiple quoted (con (negsuc 0)) u)))
+        (formulas.sum_of quoted x (formulas.multiple quoted (var 9) (formulas.difference quoted y u))) refl
 
 same_at : {X : Type 0} (xs : List X) (i : ℕ) (x y : X) → slice_get xs i ≡ Some x → slice_get xs i ≡ Some y → x ≡ y
 same_at xs i x y e f = let k = sym e ∙ f in cc k
@@ -80,27 +83,38 @@ onto_more c w t i first site o A B D is_first is_site species f same reversed = 
   where
     this : (s : Sign) → IsKeptAs c w t s o → IsOnto c w i o ⊎ D
     this s h = inl (record {
-      first = first; is_first = is_first; site = site; is_site = is_site; same_species = species; same_matrix = h.same_matrix;
+      first = first;
+      is_first = is_first;
+      site = site;
+      is_site = is_site;
+      same_species = species;
+      same_matrix = h.same_matrix;
       translation = subst (FoldsTo c.n (difference site.position (image w first.position))) (sym h.same_translation) f;
       keeps = subst (λ (r : Triple). Keeps c w r (sign_factor o.sign)) (sym h.same_translation) (subst (λ (r : Sign). Keeps c w t (sign_factor r)) (sym h.same_sign) h.keeps);
     })
+
     from_same : IsKeptAs c w t Same o ⊎ D → IsOnto c w i o ⊎ D
     from_same (inl h) = this Same h
     from_same (inr d) = inr d
+
     from_reversed : IsKeptAs c w t Reversed o ⊎ B → IsOnto c w i o ⊎ D
     from_reversed (inl h) = this Reversed h
     from_reversed (inr b) = from_same (same.0 b)
+
     now : IsOnto c w i o → o.translation ≡ t
     now k =
         let s = same_at c.sites i k.site site k.is_site is_site in
         let g = same_at c.sites 0 k.first first k.is_first is_first in
         folds_once c.n (difference site.position (image w first.position)) o.translation t
-          (subst (λ (a : Site). FoldsTo c.n (difference site.position (image w a.position)) o.translation) g (subst (λ (a : Site). FoldsTo c.n (difference a.position (image w k.first.position)) o.translation) s k.translation)) f
+        (subst (λ (a : Site). FoldsTo c.n (difference site.position (image w a.position)) o.translation) g (subst (λ (a : Site). FoldsTo c.n (difference a.position (image w k.first.position)) o.translation) s k.translation)) f
+
     kept : (s : Sign) → o.sign ≡ s → IsOnto c w i o → o.translation ≡ t → IsKeptAs c w t s o
     kept s e k h = record { same_matrix = k.same_matrix; same_translation = h; same_sign = e; keeps = subst (λ (r : Sign). Keeps c w t (sign_factor r)) e (subst (λ (r : Triple). Keeps c w r (sign_factor o.sign)) h k.keeps) }
+
     by_sign : (s : Sign) → o.sign ≡ s → IsOnto c w i o → o.translation ≡ t → A
     by_sign Same e k h = reversed.1 (inr (same.1 (inl (kept Same e k h))))
     by_sign Reversed e k h = reversed.1 (inl (kept Reversed e k h))
+
     onto : IsOnto c w i o ⊎ D → A
     onto (inl k) = by_sign o.sign refl k (now k)
     onto (inr d) = reversed.1 (inr (same.1 (inr d)))
@@ -123,12 +137,15 @@ atoms_more c w i o A D Old old more = ((λ a. forth (more.0 a)), back)
     earlier : IsFromAtoms c w i o ⊎ Old → IsFromAtoms c w (i + 1) o ⊎ Old
     earlier (inl k) = inl (record { number = k.number; below = omega (arith, k.below); onto = k.onto })
     earlier (inr d) = inr d
+
     forth : IsOnto c w i o ⊎ D → IsFromAtoms c w (i + 1) o ⊎ Old
     forth (inl k) = inl (record { number = i; below = omega arith; onto = k })
     forth (inr d) = earlier (old.0 d)
+
     by_order : (k : IsFromAtoms c w (i + 1) o) → (k.number < i) ⊎ (k.number ≡ i) → A
     by_order k (inl p) = more.1 (inr (old.1 (inl (record { number = k.number; below = p; onto = k.onto }))))
     by_order k (inr e) = more.1 (inl (subst (λ (j : ℕ). IsOnto c w j o) e k.onto))
+
     back : IsFromAtoms c w (i + 1) o ⊎ Old → A
     back (inl k) = by_order k (below_or k.number i k.below)
     back (inr d) = more.1 (inr (old.1 (inr d)))
@@ -157,12 +174,12 @@ carried_translation i t q d n e =
     let y = vector_of_variables 3 in
     let u = vector_of_variables 6 in
     by_triples (coordinates q ++ coordinates i ++ coordinates d ++ n ∷ [])
-      (formulas.difference quoted x y)
-      (formulas.difference quoted (formulas.sum_of quoted (formulas.sum_of quoted x (formulas.multiple quoted (var 9) u)) (formulas.multiple quoted (var 9) (formulas.multiple quoted (con (negsuc 0)) u))) y) refl
+    (formulas.difference quoted x y)
+    (formulas.difference quoted (formulas.sum_of quoted (formulas.sum_of quoted x (formulas.multiple quoted (var 9) u)) (formulas.multiple quoted (var 9) (formulas.multiple quoted (con (negsuc 0)) u))) y) refl
     ∙ ap (λ (p : Triple). difference (sum_of p (multiple n (multiple (negsuc 0) d))) i) (sym e)
     ∙ by_triples (coordinates i ++ coordinates t ++ coordinates d ++ n ∷ [])
-      (formulas.difference quoted (formulas.sum_of quoted (formulas.sum_of quoted x y) (formulas.multiple quoted (var 9) (formulas.multiple quoted (con (negsuc 0)) u))) x)
-      (formulas.sum_of quoted y (formulas.multiple quoted (var 9) (formulas.multiple quoted (con (negsuc 0)) u))) refl
+    (formulas.difference quoted (formulas.sum_of quoted (formulas.sum_of quoted x y) (formulas.multiple quoted (var 9) (formulas.multiple quoted (con (negsuc 0)) u))) x)
+    (formulas.sum_of quoted y (formulas.multiple quoted (var 9) (formulas.multiple quoted (con (negsuc 0)) u))) refl
 
 -- all atoms are seen: exactly the symmetry operations of this matrix
 pub atoms_all : (c : Structure) (w : Matrix) (first : Site) (o : Operation) (A Old : Type 0) → slice_get c.sites 0 ≡ Some first → A ↔ (IsFromAtoms c w (length c.sites) o ⊎ Old) → A ↔ (IsKeptBy c w o ⊎ Old)
@@ -171,15 +188,20 @@ atoms_all c w first o A Old is_first found = ((λ a. forth (found.0 a)), (λ h. 
     forth : IsFromAtoms c w (length c.sites) o ⊎ Old → IsKeptBy c w o ⊎ Old
     forth (inl f) = let k = f.onto in inl (record { same_matrix = k.same_matrix; symmetry = record { translation = k.translation.within; keeps = subst (λ (m : Matrix). Keeps c m o.translation (sign_factor o.sign)) (sym k.same_matrix) k.keeps } })
     forth (inr d) = inr d
+
     back : IsKeptBy c w o ⊎ Old → IsFromAtoms c w (length c.sites) o ⊎ Old
     back (inl h) =
         let keeps = subst (λ (m : Matrix). Keeps c m o.translation (sign_factor o.sign)) h.same_matrix h.symmetry.keeps in
         let image_of = images_of_keeps c w o.translation (sign_factor o.sign) keeps first (member_at c.sites 0 first is_first) in
         let k = at_of_member c.sites image_of.site image_of.of_cell in
         inl (record {
-          number = k.number; below = k.below;
+          number = k.number;
+          below = k.below;
           onto = record {
-            first = first; is_first = is_first; site = image_of.site; is_site = k.at;
+            first = first;
+            is_first = is_first;
+            site = image_of.site;
+            is_site = k.at;
             same_species = image_of.same_species;
             same_matrix = h.same_matrix;
             translation = record { within = h.symmetry.translation; cells = multiple (negsuc 0) image_of.cells; same = carried_translation (image w first.position) o.translation image_of.site.position image_of.cells (pos c.n) image_of.same_position };
@@ -195,6 +217,7 @@ found_more c w k o A D is old more = ((λ a. forth (more.0 a)), (λ f. by_order 
     forth : IsKeptBy c w o ⊎ D → IsFoundBelow c (k + 1) o
     forth (inl h) = record { number = k; below = omega arith; same_matrix = h.same_matrix ∙ is; symmetry = h.symmetry }
     forth (inr d) = let f = old.0 d in record { number = f.number; below = omega (arith, f.below); same_matrix = f.same_matrix; symmetry = f.symmetry }
+
     by_order : (f : IsFoundBelow c (k + 1) o) → (f.number < k) ⊎ (f.number ≡ k) → A
     by_order f (inl p) = more.1 (inr (old.1 (record { number = f.number; below = p; same_matrix = f.same_matrix; symmetry = f.symmetry })))
     by_order f (inr e) = more.1 (inl (record { same_matrix = f.same_matrix ∙ ap candidate e ∙ sym is; symmetry = f.symmetry }))
@@ -213,9 +236,9 @@ found_none c o = ((λ m. absurd m), (λ f. omega (arith, f.below)))
 -- all matrices are seen
 pub found_all : (c : Structure) (os : List Operation) → ((w : Matrix) → KeepsMetric c.metric w → EntriesAtMost 1 w) → IsIncreasing compare_of os → ((o : Operation) → IsMember o os ↔ IsFoundBelow c 19683 o) → ListsAll c os
 found_all c os small increasing found = record {
-    increasing = increasing;
-    exact = λ o. ((λ m. ((found o).0 m).symmetry), (λ s. (found o).1 (complete o s)));
-  }
+  increasing = increasing;
+  exact = λ o. ((λ m. ((found o).0 m).symmetry), (λ s. (found o).1 (complete o s)));
+}
   where
     complete : (o : Operation) → IsSymmetryOperation c o → IsFoundBelow c 19683 o
     complete o s =

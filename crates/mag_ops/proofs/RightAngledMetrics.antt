@@ -53,9 +53,11 @@ unit_size (negsuc (suc n)) e = absurd (omega (arith, ints))
 
 -- from the two facts on an entry
 entry_small : (a b w v h : ℤ) → pos 0 <ℤ a → unsigned_abs (a *ℤ (w *ℤ w)) ≤ unsigned_abs b → h *ℤ h ≡ pos 1 → h *ℤ (a *ℤ w) ≡ b *ℤ v → AtMost 1 w
-entry_small a b w v h p norm one e = record { size = small (unsigned_abs a) (unsigned_abs b) (unsigned_abs w) (unsigned_abs v) (positive_size a p)
-    (subst (λ (n : ℕ). n ≤ unsigned_abs b) (unsigned_abs-mul a (w *ℤ w) ∙ ap (λ (n : ℕ). unsigned_abs a * n) (unsigned_abs-mul w w)) norm)
-    (sym (unsigned_abs-mul a w) ∙ once (unsigned_abs (a *ℤ w)) ∙ sym (ap (λ (n : ℕ). n * unsigned_abs (a *ℤ w)) (unit_size h one)) ∙ sym (unsigned_abs-mul h (a *ℤ w)) ∙ ap unsigned_abs e ∙ unsigned_abs-mul b v) }
+entry_small a b w v h p norm one e = record {
+  size = small (unsigned_abs a) (unsigned_abs b) (unsigned_abs w) (unsigned_abs v) (positive_size a p)
+      (subst (λ (n : ℕ). n ≤ unsigned_abs b) (unsigned_abs-mul a (w *ℤ w) ∙ ap (λ (n : ℕ). unsigned_abs a * n) (unsigned_abs-mul w w)) norm)
+      (sym (unsigned_abs-mul a w) ∙ once (unsigned_abs (a *ℤ w)) ∙ sym (ap (λ (n : ℕ). n * unsigned_abs (a *ℤ w)) (unit_size h one)) ∙ sym (unsigned_abs-mul h (a *ℤ w)) ∙ ap unsigned_abs e ∙ unsigned_abs-mul b v);
+}
   where
     once : (n : ℕ) → n ≡ 1 * n
     once n = omega arith

@@ -7,5 +7,4 @@
 mod candidate;
 mod group;
 
-pub use group::cell_group;
-pub use group::is_right_angled;
+pub use group::{cell_group, is_right_angled};

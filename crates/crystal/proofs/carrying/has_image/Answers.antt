@@ -16,7 +16,7 @@ returns-in-Some c =
     let f = subst (λ (n : ℕ). FoldsTo n p q) c.n.ensures c.carried_place-place.ensures in
     let b = site_of c.atom.result.now in
     occupied_at c.args.cell.now c.count-form.ensures.form c.args.atom.now.species p m q c.in-Some.i b f c.in-Some.ensures.found c.atom.ensures.value
-      (subst (λ (v : Triple). IsTrue c.is_of.result ↔ ((b.species ≡ c.args.atom.now.species) × (b.moment ≡ v))) c.carried_moment-moment.ensures c.is_of.ensures)
+    (subst (λ (v : Triple). IsTrue c.is_of.result ↔ ((b.species ≡ c.args.atom.now.species) × (b.moment ≡ v))) c.carried_moment-moment.ensures c.is_of.ensures)
 
 pub returns-in-None : goal.returns-in-None
 returns-in-None c =

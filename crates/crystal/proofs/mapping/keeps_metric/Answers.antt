@@ -13,8 +13,8 @@ pub times-carried-requires-clause-fits : goal.times-carried-requires-clause-fits
 times-carried-requires-clause-fits c =
     let n = 10 ^ 16 * 150000000 + 10 ^ 16 * 150000000 + 10 ^ 16 * 150000000 in
     product_fits 150000000 n _ _ (lit≤ tt)
-      (subst (EntriesAtMost 150000000) (sym c.transpose.ensures) (at_most_transposed _ _ c.requires.map))
-      (subst (EntriesAtMost n) (sym c.times.ensures.value) (at_most_product (10 ^ 16) 150000000 _ _ c.requires.metric c.requires.map))
+    (subst (EntriesAtMost 150000000) (sym c.transpose.ensures) (at_most_transposed _ _ c.requires.map))
+    (subst (EntriesAtMost n) (sym c.times.ensures.value) (at_most_product (10 ^ 16) 150000000 _ _ c.requires.metric c.requires.map))
 
 pub returns : goal.returns
 returns c =

@@ -15,8 +15,8 @@ returns-clause-members g c o =
     let species : site.species ≡ first.species = search rules in
     let folds = subst (λ (n : ℕ). FoldsTo n (difference site.position (image c.args.w.now first.position)) (triple_of c.translation_onto-shift.result)) c.n.ensures c.translation_onto-shift.ensures in
     onto_more c.args.places.now c.args.w.now (triple_of c.translation_onto-shift.result) c.args.i first site o _ _ _
-      (subst (λ (s : Structure). slice_get s.sites 0 ≡ Some first) same c.atom-first.ensures.value)
-      (subst (λ (s : Structure). slice_get s.sites c.args.i ≡ Some site) same c.atom-atom.ensures.value)
-      species
-      (subst (λ (s : Structure). FoldsTo s.n (difference site.position (image c.args.w.now first.position)) (triple_of c.translation_onto-shift.result)) same folds)
-      (c.in_ok-add_kept.ensures.members o) (c.in_ok-add_kept-2.ensures.members o)
+    (subst (λ (s : Structure). slice_get s.sites 0 ≡ Some first) same c.atom-first.ensures.value)
+    (subst (λ (s : Structure). slice_get s.sites c.args.i ≡ Some site) same c.atom-atom.ensures.value)
+    species
+    (subst (λ (s : Structure). FoldsTo s.n (difference site.position (image c.args.w.now first.position)) (triple_of c.translation_onto-shift.result)) same folds)
+    (c.in_ok-add_kept.ensures.members o) (c.in_ok-add_kept-2.ensures.members o)

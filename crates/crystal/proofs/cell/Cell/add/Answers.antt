@@ -12,10 +12,10 @@ pub invariant_of-self-2 : goal.invariant_of-self-2
 invariant_of-self-2 c =
     let s = structure_of c.self.inside in
     let is : map site_of c.push.new.self.items ≡ s.sites ++ site_of c.args.atom ∷ [] =
-      ap (map site_of) c.in_ok-push.ensures.items ∙ map-append site_of c.self.inside.atoms.items (c.args.atom ∷ []) in
+    ap (map site_of) c.in_ok-push.ensures.items ∙ map-append site_of c.self.inside.atoms.items (c.args.atom ∷ []) in
     let back = sym c.self.view_is in
     subst (λ (xs : List Site). IsCell (record s { sites = xs })) (sym is)
-      (atom_more s (site_of c.args.atom) c.self.invariant
-        (subst (λ (t : Structure). IsSiteOf (length t.names) t.n (site_of c.args.atom)) back c.requires.site)
-        (subst (λ (t : Structure). NoneAt (triple_of c.args.atom.place) t.sites) back c.requires.free)
-        (subst (λ (t : Structure). length t.sites < 512) back c.requires.fewer))
+    (atom_more s (site_of c.args.atom) c.self.invariant
+    (subst (λ (t : Structure). IsSiteOf (length t.names) t.n (site_of c.args.atom)) back c.requires.site)
+    (subst (λ (t : Structure). NoneAt (triple_of c.args.atom.place) t.sites) back c.requires.free)
+    (subst (λ (t : Structure). length t.sites < 512) back c.requires.fewer))

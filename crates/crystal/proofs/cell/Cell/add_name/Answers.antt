@@ -10,4 +10,4 @@ pub invariant_of-self-2 : goal.invariant_of-self-2
 invariant_of-self-2 c =
     let s = structure_of c.self.inside in
     subst (λ (xs : List (List ℕ)). IsCell (record s { names = xs })) (sym c.in_ok-push.ensures.items)
-      (name_more s c.args.name c.self.invariant (subst (λ (t : Structure). IsMember c.args.name t.names → ⊥) (sym c.self.view_is) c.requires.new))
+    (name_more s c.args.name c.self.invariant (subst (λ (t : Structure). IsMember c.args.name t.names → ⊥) (sym c.self.view_is) c.requires.new))
