@@ -14,7 +14,7 @@ use Rattle.crystal_spec.proofs.Identities.{by_integers}
 use Rattle.ring.specs.Ring.{quoted, var, con, ◌:*◌, ◌:-◌}
 use Rattle.matrix3.specs.Matrices as formulas
 use Rattle.crystal.specs.Bounds.{EntriesAtMost}
-use Rattle.mag_ops.specs.Candidates.{candidate, entry_at, no_translation, IsKeptAs, IsFoundBelow}
+use Rattle.mag_ops.specs.Candidates.{candidate, no_translation, IsKeptAs, IsFoundBelow}
 use Rattle.mag_ops.specs.RightAngled.{IsRightAngled}
 use Rattle.mag_ops.proofs.RightAngledMetrics as right
 
