@@ -1,5 +1,7 @@
 pub mod NameLemmas
 pub mod Ranges
 pub mod Equality
-pub mod OneAtom
 pub mod Positions
+pub mod Folding
+pub mod CellLemmas
+pub mod ImageLemmas

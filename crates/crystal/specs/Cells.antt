@@ -1,25 +1,48 @@
 -- The cells that the code holds.
-use Rattle.std.specs.Prelude.{◌≡◌, ℕ, pos, ◌*◌, ◌^◌, ◌≤ℤ◌, List, [], ◌∷◌, map}
+--   IsCell c   c is a cell: a positive metric tensor, units within bounds, names that differ, and 1 to 512 atoms within the
+--              cell, of named species, no two at one position
+use Rattle.std.specs.Prelude.{◌≡◌, ℕ, pos, ◌*◌, ◌^◌, ◌<◌, ◌≤◌, ◌≤ℤ◌, List, [], ◌∷◌, map, length, slice_get, Some}
+use Rattle.crystal_spec.specs.Increasing.{IsDistinct}
+use Rattle.crystal_spec.specs.Matrices.{Matrix}
 use Rattle.crystal_spec.specs.Crystals.{Site, Structure, IsPositive}
-use Rattle.crystal.specs.Views.{metric_of, site_of, triple_of}
+use Rattle.crystal_spec.specs.Operations.{IsWithinCell}
 use Rattle.crystal.specs.Bounds.{EntriesAtMost, CoordinatesAtMost}
-use Rattle.crystal.specs.declared.cell.Cell.TheInside.{Inside}
+use Rattle.crystal.specs.Occupants.{NoneAt}
 
-abbrev pub structure_of : Inside → Structure
-structure_of c = record { names = c.names.items; scale = c.scale; metric = metric_of c.metric; n = c.n; k = c.k; sites = map site_of c.atoms.items }
+-- rows and columns are the same
+pub record IsSymmetric (g : Matrix) : Type 0 where
+  pub ab : g.a21 ≡ g.a12
+  pub ac : g.a31 ≡ g.a13
+  pub bc : g.a32 ≡ g.a23
 
--- A positive metric tensor, numbers within their bounds, and one atom, at the origin, of the one species.
-pub record IsCell (c : Inside) : Type 0 where
-  pub positive : IsPositive (metric_of c.metric)
-  pub entries : EntriesAtMost (10 ^ 16) (metric_of c.metric)
+-- an atom of one of so many species, at a position from 0 to n - 1, with a moment of size up to 2 · 10^27
+pub record IsSiteOf (species n : ℕ) (site : Site) : Type 0 where
+  pub named : site.species < species
+  pub within : IsWithinCell n site.position
+  pub moment : CoordinatesAtMost (2 * 10 ^ 27) site.moment
+
+abbrev pub AreSitesOf : ℕ → ℕ → List Site → Type 0
+AreSitesOf species n [] = Unit {0}
+AreSitesOf species n (site ∷ sites) = IsSiteOf species n site × AreSitesOf species n sites
+
+-- no two are at one position
+abbrev pub AreApart : List Site → Type 0
+AreApart [] = Unit {0}
+AreApart (site ∷ sites) = NoneAt site.position sites × AreApart sites
+
+pub record IsCell (c : Structure) : Type 0 where
+  pub positive : IsPositive c.metric
+  pub symmetric : IsSymmetric c.metric
+  pub entries : EntriesAtMost (10 ^ 16) c.metric
   pub scale_at_least : pos 1 ≤ℤ c.scale
   pub scale_at_most : c.scale ≤ℤ pos (10 ^ 16)
-  pub one_part : c.n ≡ 1
-  pub one_part_of_moments : c.k ≡ 1
-  pub name : List ℕ
-  pub only_name : c.names.items ≡ name ∷ []
-  pub site : Site
-  pub only_site : map site_of c.atoms.items ≡ site ∷ []
-  pub species : site.species ≡ 0
-  pub origin : site.position ≡ triple_of (0 ∷ 0 ∷ 0 ∷ [])
-  pub moment : CoordinatesAtMost (2 * 10 ^ 27) site.moment
+  pub n_at_least : 1 ≤ c.n
+  pub n_at_most : c.n ≤ 10 ^ 6
+  pub k_at_least : 1 ≤ c.k
+  pub k_at_most : c.k ≤ 10 ^ 6
+  pub names_differ : IsDistinct c.names
+  pub some : 1 ≤ length c.sites
+  pub few : length c.sites ≤ 512
+  pub first : (site : Site) → slice_get c.sites 0 ≡ Some site → site.species ≡ 0
+  pub sites : AreSitesOf (length c.names) c.n c.sites
+  pub apart : AreApart c.sites

@@ -1,5 +1,7 @@
 pub mod Names
 pub mod Views
 pub mod Bounds
-pub mod Cells
 pub mod Occupants
+pub mod Cells
+pub mod CellFields
+pub mod Carrying

@@ -1,25 +1,24 @@
-ghost use Rattle.std.specs.Prelude.{◌≡◌, ◌↔◌, IsTrue, ◌*◌, ◌^◌, ◌<◌, ◌≤ℤ◌, pos, IfOk, IfSome, IfNone, [], ◌∷◌, length, slice_get, Some};
-ghost use Rattle.crystal_spec.specs.Matrices.{Triple};
-ghost use Rattle.crystal_spec.specs.Crystals.{IsPositive, Keeps};
-ghost use Rattle.crystal_spec.specs.Operations.{sign_factor};
+ghost use Rattle.std.specs.Prelude.{◌≡◌, ◌*◌, ◌^◌, ◌<◌, ◌≤◌, ◌≤ℤ◌, pos, IfOk, IfSome, IfNone, OnOk, OnErr, [], ◌∷◌, ◌++◌, length, slice_get, Some};
+ghost use Rattle.crystal_spec.specs.Increasing.{IsMember};
+ghost use Rattle.crystal_spec.specs.Crystals.{IsPositive};
+ghost use Rattle.crystal_spec.specs.Operations.{IsWithinCell};
 ghost use Rattle.crystal.specs.Views.{metric_of, site_of, triple_of};
 ghost use Rattle.crystal.specs.Occupants.{IsOccupant, NoneAt};
 ghost use Rattle.crystal.specs.Bounds.{EntriesAtMost, CoordinatesAtMost};
+ghost use Rattle.crystal.specs.Cells.{IsCell, IsSiteOf};
 
 use crate::atom::Atom;
-use crate::mapping::{keeps_metric, keeps_moment};
 use crate::metric::Metric;
 use crate::name::Name;
 use crate::occupant::find_occupant;
-use crystal_spec::Sign;
 use exact_num::Int;
-use matrix3::Mat3;
 use std::alloc::{AllocError, Global};
 use std::marker::Model;
 
-/// A cell of a magnetic crystal: its metric tensor in units of 1/scale, its species by name, and its atoms.
+/// A cell of a magnetic crystal: its metric tensor in units of 1/scale, the names of its species, and its atoms.
 ///
-/// For now it holds one atom, at the origin, and n and k are 1.
+/// The metric tensor is positive, with entries of size up to 10^16, and the scale is from 1 to 10^16. Positions are in
+/// units of 1/n, moments in units of 1/k, n and k from 1 to 10^6. There are 1 to 512 atoms, no two at one position.
 #[derive(Drop)]
 pub struct Cell {
     names: Vec<Name>,
@@ -35,11 +34,11 @@ impl Model for Cell {
 
     ghost Value = { Structure };
 
-    ghost use Rattle.crystal.specs.Cells.{structure_of, IsCell};
+    ghost use Rattle.crystal.specs.CellFields.{structure_of, HoldsCell};
 
     ghost view = { structure_of };
 
-    ghost invariant = { IsCell };
+    ghost invariant = { HoldsCell };
 }
 
 /// A list that has these names.
@@ -70,10 +69,12 @@ impl Cell {
         requires entries { EntriesAtMost (10 ^ 16) (metric_of metric) }
         requires scale_at_least { pos 1 ≤ℤ scale }
         requires scale_at_most { scale ≤ℤ pos (10 ^ 16) }
-        requires n { n ≡ 1 }
-        requires k { k ≡ 1 }
+        requires n_at_least { 1 ≤ n }
+        requires n_at_most { n ≤ 10 ^ 6 }
+        requires k_at_least { 1 ≤ k }
+        requires k_at_most { k ≤ 10 ^ 6 }
         requires species { first.species ≡ 0 }
-        requires place { first.place ≡ 0 ∷ 0 ∷ 0 ∷ [] }
+        requires place { IsWithinCell n (triple_of first.place) }
         requires moment { CoordinatesAtMost (2 * 10 ^ 27) first.moment }
         ensures { IfOk result (λ c. c ≡ record { names = name ∷ []; scale = scale; metric = metric_of metric; n = n; k = k; sites = site_of first ∷ [] }) }
     {
@@ -91,6 +92,35 @@ impl Cell {
         })
     }
 
+    /// Adds the name of a further species, and gives its number.
+    ///
+    /// Refuses for want of memory alone, and then leaves the cell as it was.
+    pub fn add_name(&mut self, name: Name) -> Result<u16, AllocError>
+        requires new { IsMember name self.old.names → ⊥ }
+        requires fewer { length self.old.names < 512 }
+        ensures number { IfOk result (λ number. number ≡ length self.old.names) }
+        ensures value { OnOk result (self.new ≡ record self.old { names = self.old.names ++ name ∷ [] }) }
+        ensures unchanged { OnErr result (self.new ≡ self.old) }
+    {
+        let number = self.names.len() as u16;
+        self.names.push(name)?;
+        Ok(number)
+    }
+
+    /// Adds an atom of a named species, at a position within the cell where no atom is.
+    ///
+    /// Refuses for want of memory alone, and then leaves the cell as it was.
+    pub fn add(&mut self, atom: Atom) -> Result<(), AllocError>
+        requires site { IsSiteOf (length self.old.names) self.old.n (site_of atom) }
+        requires free { NoneAt (triple_of atom.place) self.old.sites }
+        requires fewer { length self.old.sites < 512 }
+        ensures value { OnOk result (self.new ≡ record self.old { sites = self.old.sites ++ site_of atom ∷ [] }) }
+        ensures unchanged { OnErr result (self.new ≡ self.old) }
+    {
+        self.atoms.push(atom)?;
+        Ok(())
+    }
+
     /// The unit of the metric tensor: its entries divided by the scale are those of the axes.
     pub fn scale(&self) -> Int
         ensures { result ≡ self.now.scale }
@@ -100,16 +130,14 @@ impl Cell {
 
     /// The metric tensor, in units of 1/scale.
     pub fn metric(&self) -> &Metric
-        ensures value { metric_of result.now ≡ self.now.metric }
-        ensures positive { IsPositive self.now.metric }
+        ensures { metric_of result.now ≡ self.now.metric }
     {
         &self.metric
     }
 
     /// The parts into which positions divide each axis.
     pub fn n(&self) -> u32
-        ensures value { result ≡ self.now.n }
-        ensures one { self.now.n ≡ 1 }
+        ensures { result ≡ self.now.n }
     {
         self.n
     }
@@ -121,9 +149,10 @@ impl Cell {
         self.k
     }
 
-    /// How many atoms the cell has.
+    /// How many atoms the cell has, 1 to 512.
     pub fn count(&self) -> usize
-        ensures { result ≡ length self.now.sites }
+        ensures value { result ≡ length self.now.sites }
+        ensures form { IsCell self.now }
     {
         self.atoms.len()
     }
@@ -138,7 +167,8 @@ impl Cell {
     /// The atom number i, from 0.
     pub fn atom(&self, i: usize) -> &Atom
         requires { i < length self.now.sites }
-        ensures { slice_get self.now.sites i ≡ Some (site_of result.now) }
+        ensures value { slice_get self.now.sites i ≡ Some (site_of result.now) }
+        ensures form { IsSiteOf (length self.now.names) self.now.n (site_of result.now) }
     {
         &self.atoms[i]
     }
@@ -154,18 +184,10 @@ impl Cell {
     /// The number of the atom at a position, or `None` where no atom is there.
     pub(crate) fn occupant(&self, place: [u32; 3]) -> Option<usize>
         ensures found { IfSome result (IsOccupant self.now.sites (triple_of place)) }
+        ensures below { IfSome result (λ i. i < length self.now.sites) }
         ensures absent { IfNone result (NoneAt (triple_of place) self.now.sites) }
     {
         find_occupant(&self.atoms, place)
-    }
-
-    /// Whether the map of this matrix, without translation, and time sign keeps the crystal of the one atom.
-    pub(crate) fn keeps_map(&self, w: &Mat3<Int>, sign: Sign) -> bool
-        requires map { EntriesAtMost 150000000 w.now }
-        ensures { (shift : Triple) → IsTrue result ↔ Keeps self.now w.now shift (sign_factor sign) }
-    {
-        let g = self.metric.matrix();
-        keeps_metric(&g, w) && keeps_moment(w, &self.atoms[0].moment, sign)
     }
 
     /// The same cell again.

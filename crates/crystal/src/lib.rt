@@ -5,6 +5,7 @@
 #![tactic(auto)]
 
 mod atom;
+mod carrying;
 mod cell;
 mod mapping;
 mod metric;
@@ -16,6 +17,7 @@ mod steps;
 pub use atom::Atom;
 pub use cell::Cell;
 pub use crystal_spec::Sign;
+pub use mapping::translation_onto;
 pub use metric::Metric;
 pub use name::Name;
 pub use places::Places;

@@ -1,14 +1,17 @@
-ghost use Rattle.std.specs.Prelude.{◌≡◌, ◌↔◌, ◌*◌, ◌^◌, ◌*ℤ◌, pos, IsTrue};
-ghost use Rattle.crystal_spec.specs.Matrices.{determinant, multiple};
-ghost use Rattle.crystal_spec.specs.Crystals.{KeepsMetric, moment_after};
+ghost use Rattle.std.specs.Prelude.{◌≡◌, ◌↔◌, ◌+◌, ◌*◌, ◌^◌, ◌<◌, ◌≤◌, ℤ, ◌+ℤ◌, ◌*ℤ◌, pos, IsTrue};
+ghost use Rattle.ring.specs.Size.{AtMost};
+ghost use Rattle.crystal_spec.specs.Matrices.{determinant, difference, image, multiple};
+ghost use Rattle.crystal_spec.specs.Crystals.{KeepsMetric, position_after, moment_after};
 ghost use Rattle.crystal_spec.specs.Operations.{sign_factor};
+ghost use Rattle.crystal.specs.Views.{triple_of};
 ghost use Rattle.crystal.specs.Bounds.{EntriesAtMost, CoordinatesAtMost};
+ghost use Rattle.crystal.specs.Carrying.{FoldsTo};
 
 use crystal_spec::Sign;
-use exact_num::{Exact, Int};
+use exact_num::{Exact, Int, Residue};
 use matrix3::{Mat3, Vec3};
 
-/// Whether the matrix is an isometry of the metric: wᵀ g w = g.
+/// Whether the matrix is an isometry of the metric tensor: wᵀ g w = g.
 pub(crate) fn keeps_metric(g: &Mat3<Int>, w: &Mat3<Int>) -> bool
     requires metric { EntriesAtMost (10 ^ 16) g.now }
     requires map { EntriesAtMost 150000000 w.now }
@@ -45,14 +48,76 @@ fn multiple(factor: Int, v: &Vec3<Int>) -> Vec3<Int>
     }
 }
 
-/// Whether an isometry with this time sign leaves the moment as it is.
-pub(crate) fn keeps_moment(w: &Mat3<Int>, moment: &Vec3<Int>, sign: Sign) -> bool
+/// The moment that an isometry with this time sign makes of a moment, as an axial vector.
+pub(crate) fn carried_moment(w: &Mat3<Int>, sign: Sign, moment: &Vec3<Int>) -> Vec3<Int>
     requires map { EntriesAtMost 150000000 w.now }
     requires moment { CoordinatesAtMost (2 * 10 ^ 27) moment.now }
     requires isometry { determinant w.now *ℤ determinant w.now ≡ pos 1 }
-    ensures { IsTrue result ↔ (moment_after w.now (sign_factor sign) moment.now ≡ moment.now) }
+    ensures { result ≡ moment_after w.now (sign_factor sign) moment.now }
 {
     let factor = axial_factor(w, sign);
-    let carried = multiple(factor, &w.apply(moment));
-    carried == *moment
+    multiple(factor, &w.apply(moment))
+}
+
+/// A natural number as an exact integer.
+fn whole(number: u32) -> Int
+    ensures value { result ≡ pos number }
+    ensures size { AtMost (2 ^ 32) result }
+{
+    Int::new(number as i128).unwrap()
+}
+
+/// A position or translation part as a column of integers.
+fn column(place: [u32; 3]) -> Vec3<Int>
+    ensures value { result ≡ triple_of place }
+    ensures size { CoordinatesAtMost (2 ^ 32) result }
+{
+    Vec3 {
+        x: whole(place[0]),
+        y: whole(place[1]),
+        z: whole(place[2]),
+    }
+}
+
+/// The number from 0 to n - 1 from which z + t differs by a multiple of n.
+fn folded(z: Int, t: u32, n: u32) -> u32
+    requires at_least { 1 ≤ n }
+    requires at_most { n ≤ 10 ^ 6 }
+    requires size { AtMost (10 ^ 30) z }
+    ensures below { result < n }
+    ensures same { (q : ℤ) × (z +ℤ pos t ≡ pos result +ℤ pos n *ℤ q) }
+{
+    Residue::new((z + whole(t)).get(), n).get()
+}
+
+/// The position within the cell to which a map carries a position, but for whole cells.
+pub(crate) fn carried_place(w: &Mat3<Int>, shift: [u32; 3], place: [u32; 3], n: u32) -> [u32; 3]
+    requires map { EntriesAtMost 150000000 w.now }
+    requires at_least { 1 ≤ n }
+    requires at_most { n ≤ 10 ^ 6 }
+    ensures { FoldsTo n (position_after w.now (triple_of shift) (triple_of place)) (triple_of result) }
+{
+    let image = w.apply(&column(place));
+    [
+        folded(image.x, shift[0], n),
+        folded(image.y, shift[1], n),
+        folded(image.z, shift[2], n),
+    ]
+}
+
+/// The translation part with which the matrix carries one position onto another, but for whole cells.
+///
+/// Positions and translation parts are in units of 1/n, with n from 1 to 10^6.
+pub fn translation_onto(w: &Mat3<Int>, from: [u32; 3], onto: [u32; 3], n: u32) -> [u32; 3]
+    requires map { EntriesAtMost 150000000 w.now }
+    requires at_least { 1 ≤ n }
+    requires at_most { n ≤ 10 ^ 6 }
+    ensures { FoldsTo n (difference (triple_of onto) (image w.now (triple_of from))) (triple_of result) }
+{
+    let image = w.apply(&column(from));
+    [
+        folded(-image.x, onto[0], n),
+        folded(-image.y, onto[1], n),
+        folded(-image.z, onto[2], n),
+    ]
 }

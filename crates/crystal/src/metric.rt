@@ -1,6 +1,9 @@
-ghost use Rattle.std.specs.Prelude.{◌≡◌};
+ghost use Rattle.std.specs.Prelude.{◌≡◌, ◌↔◌, ◌^◌, IsTrue};
+ghost use Rattle.crystal_spec.specs.Crystals.{KeepsMetric};
 ghost use Rattle.crystal.specs.Views.{metric_of};
+ghost use Rattle.crystal.specs.Bounds.{EntriesAtMost};
 
+use crate::mapping::keeps_metric;
 use exact_num::Int;
 use matrix3::Mat3;
 
@@ -32,5 +35,14 @@ impl Metric {
             a32: g.bc,
             a33: g.cc,
         }
+    }
+
+    /// Whether the matrix is an isometry of the metric tensor: wᵀ g w = g.
+    pub fn is_kept_by(&self, w: &Mat3<Int>) -> bool
+        requires metric { EntriesAtMost (10 ^ 16) (metric_of self.now) }
+        requires map { EntriesAtMost 150000000 w.now }
+        ensures { IsTrue result ↔ KeepsMetric (metric_of self.now) w.now }
+    {
+        keeps_metric(&self.matrix(), w)
     }
 }

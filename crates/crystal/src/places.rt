@@ -5,6 +5,7 @@ ghost use Rattle.crystal.specs.Views.{triple_of};
 ghost use Rattle.crystal.specs.Bounds.{EntriesAtMost};
 ghost use Rattle.crystal.specs.Occupants.{IsOccupant, NoneAt};
 
+use crate::carrying::have_images;
 use crate::cell::Cell;
 use crate::steps::Steps;
 use crystal_spec::Sign;
@@ -73,6 +74,8 @@ impl Places {
         ensures ticks { steps.new ≡ steps.old + 1 }
     {
         steps.tick();
-        self.cell.keeps_map(w, sign)
+        let cell = &self.cell;
+        let _form = cell.count();
+        cell.metric().is_kept_by(w) && have_images(cell, w, shift, sign)
     }
 }

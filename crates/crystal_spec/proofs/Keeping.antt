@@ -2,12 +2,12 @@
 -- each is an image.
 use Rattle.std.proofs.Common.{◌≡◌, refl, sym, ap, ◌∙◌, ℕ, List, [], ◌∷◌, ◌++◌, arith}
 use Rattle.std.specs.Prelude.{ℤ, pos, ◌+ℤ◌, ◌-ℤ◌, ◌*ℤ◌, neg_ℤ}
-use Rattle.std.specs.List.{Contains}
+use Rattle.crystal_spec.specs.Increasing.{IsMember}
 use Rattle.std.proofs.lemmas.Int.{ints}
 use Rattle.ring.specs.Ring.{quoted, var, con, ◌:*◌, ◌:-◌}
 use Rattle.matrix3.specs.Matrices.{entries, coordinates, matrix_of_variables, vector_of_variables}
 use Rattle.matrix3.specs.Matrices as formulas
-use Rattle.crystal_spec.specs.Matrices.{Matrix, Triple, determinant, adjugate, image, multiple, sum_of}
+use Rattle.crystal_spec.specs.Matrices.{Matrix, Triple, determinant, adjugate, image, multiple, sum_of, difference}
 use Rattle.crystal_spec.specs.Crystals.{Site, Structure, IsPositive, Occupied, KeepsMetric, Keeps, position_after, moment_after}
 use Rattle.crystal_spec.proofs.Entrywise.{triple_same}
 use Rattle.crystal_spec.proofs.Identities.{by_integers, by_triples}
@@ -15,7 +15,7 @@ use Rattle.crystal_spec.proofs.Isometries.{determinant-isometry, cancel_image, c
 
 -- each atom is carried to an occupied position
 abbrev pub HasImages : Structure → Matrix → Triple → ℤ → Type 0
-HasImages c w t sign = (a : Site) → Contains c.sites a → Occupied c a.species (position_after w t a.position) (moment_after w sign a.moment)
+HasImages c w t sign = (a : Site) → IsMember a c.sites → Occupied c a.species (position_after w t a.position) (moment_after w sign a.moment)
 
 -- where an atom comes from
 pub record ComesFrom (c : Structure) (w : Matrix) (t : Triple) (sign : ℤ) (a : Site) : Type 0 where
@@ -27,10 +27,7 @@ pub record ComesFrom (c : Structure) (w : Matrix) (t : Triple) (sign : ℤ) (a :
   pub as_moment : moment_after w sign moment ≡ a.moment
 
 abbrev pub HasPreimages : Structure → Matrix → Triple → ℤ → Type 0
-HasPreimages c w t sign = (a : Site) → Contains c.sites a → ComesFrom c w t sign a
-
-abbrev pub difference : Triple → Triple → Triple
-difference u v = record { x = u.x -ℤ v.x; y = u.y -ℤ v.y; z = u.z -ℤ v.z }
+HasPreimages c w t sign = (a : Site) → IsMember a c.sites → ComesFrom c w t sign a
 
 -- whole cells are carried to whole cells
 pub carried_cells : (w : Matrix) (t a d : Triple) (n : ℤ) → position_after w t (sum_of a (multiple n d)) ≡ sum_of (position_after w t a) (multiple n (image w d))

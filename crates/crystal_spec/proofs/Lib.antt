@@ -1,5 +1,8 @@
 pub mod Entrywise
 pub mod Identities
 pub mod Isometries
+pub mod Counting
 pub mod Keeping
+pub mod Images
 pub mod Ordered
+mod KnownValues

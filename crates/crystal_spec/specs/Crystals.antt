@@ -8,7 +8,7 @@
 --   moment_after w s m    the moment that the map of matrix w and time sign s makes of m, as an axial vector
 --   Keeps c w t s         the map keeps the metric and carries the infinite crystal onto itself
 use Rattle.std.specs.Prelude.{◌≡◌, ◌↔◌, ℕ, ℤ, pos, ◌+ℤ◌, ◌-ℤ◌, ◌*ℤ◌, ◌<ℤ◌, List}
-use Rattle.std.specs.List.{Contains}
+use Rattle.crystal_spec.specs.Increasing.{IsMember}
 use Rattle.crystal_spec.specs.Matrices.{Triple, Matrix, product, image, transposed, determinant, multiple, sum_of}
 
 -- an atom of a cell: its species, its position in units of 1/n, its moment in units of 1/k, both along the axes
@@ -36,7 +36,7 @@ pub record IsPositive (g : Matrix) : Type 0 where
 -- from this one by whole cells, which are multiples of n in each coordinate.
 pub record Occupied (c : Structure) (species : ℕ) (position moment : Triple) : Type 0 where
   pub site : Site
-  pub of_cell : Contains c.sites site
+  pub of_cell : IsMember site c.sites
   pub same_species : site.species ≡ species
   pub same_moment : site.moment ≡ moment
   pub cells : Triple

@@ -1,6 +1,7 @@
 -- Strictly increasing lists, and their members.
 --   IsIncreasing cmp xs   each element is below all later ones
 --   IsMember x xs         x is an element
+--   IsDistinct xs         no element stands twice
 --   inserted cmp x xs     xs with x at its place; xs itself where x is there
 use Rattle.std.specs.Prelude.{◌≡◌, ◌⊎◌, List, [], ◌∷◌}
 use Rattle.std.specs.declared.cmp.Ordering.{Ordering}
@@ -18,6 +19,10 @@ IsIncreasing cmp (x ∷ xs) = IsBelowAll cmp x xs × IsIncreasing cmp xs
 abbrev pub IsMember : {X : Type 0} → X → List X → Type 0
 IsMember x [] = ⊥
 IsMember x (y ∷ ys) = (x ≡ y) ⊎ IsMember x ys
+
+abbrev pub IsDistinct : {X : Type 0} → List X → Type 0
+IsDistinct [] = Unit {0}
+IsDistinct (x ∷ xs) = (IsMember x xs → ⊥) × IsDistinct xs
 
 abbrev pub inserted : {X : Type 0} → (X → X → Ordering) → X → List X → List X
 inserted cmp x [] = x ∷ []

@@ -1,4 +1,4 @@
+pub mod Increasing
 pub mod Matrices
 pub mod Crystals
-pub mod Increasing
 pub mod Operations

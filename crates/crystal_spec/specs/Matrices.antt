@@ -6,6 +6,7 @@
 --   adjugate a        the matrix of signed minors
 --   multiple k v      k times a column
 --   sum_of u v        the sum of two columns
+--   difference u v    the difference of two columns
 use Rattle.std.specs.Prelude.{ℤ, pos}
 use Rattle.ring.specs.Ring.{int_ops}
 use Rattle.matrix3.specs.declared.vector.Vec3.{Vec3}
@@ -41,3 +42,6 @@ multiple k v = formulas.multiple int_ops k v
 
 abbrev pub sum_of : Triple → Triple → Triple
 sum_of u v = formulas.sum_of int_ops u v
+
+abbrev pub difference : Triple → Triple → Triple
+difference u v = formulas.difference int_ops u v

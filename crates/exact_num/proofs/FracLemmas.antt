@@ -29,17 +29,21 @@ module _ (a b c d x y z w : ℤ) (p : IsLowest (fraction a b)) (q : IsLowest (fr
   same =
       ap₂ fraction (ap₂ (λ s t. s *ℤ t) ex ez) (ap₂ (λ s t. s *ℤ t) ey ew)
 
+  -- the product of the parts is in lowest terms
   pub product_lowest : IsLowest (fraction (x *ℤ z) (y *ℤ w))
   product_lowest = subst IsLowest (sym same) (crosswise_is a b c d p q)
 
+  -- and is the product of the fractions
   pub product_is : fraction (x *ℤ z) (y *ℤ w) ≡ multiply (fraction a b) (fraction c d)
   product_is = same ∙ sym (multiply-crosswise a b c d p q)
 
+  -- its numerator is held by an i128 where the product is a value of the type
   pub product_fits : IsSmall (multiply (fraction a b) (fraction c d)) → SFits w128 (x *ℤ z)
   product_fits h =
       let k : IsSmall (fraction (x *ℤ z) (y *ℤ w)) = subst IsSmall (sym product_is) h in
       fits k.upper tt
 
+  -- and so is its denominator
   pub product_fits_below : IsSmall (multiply (fraction a b) (fraction c d)) → SFits w128 (y *ℤ w)
   product_fits_below h =
       let k : IsSmall (fraction (x *ℤ z) (y *ℤ w)) = subst IsSmall (sym product_is) h in
@@ -69,6 +73,7 @@ pub record SumReads (a b c d : ℤ) : Type 0 where
   pub den_fits : SFits w128 (b *ℤ d)
   pub num_size : AtMost (2 * 10 ^ 36) (a *ℤ d +ℤ c *ℤ b)
 
+-- each of them is small
 pub sum_reads : (a b c d : ℤ) → IsSmall (fraction a b) → IsSmall (fraction c d) → SumReads a b c d
 sum_reads a b c d p q =
     let ad = at_most_mul p.upper q.lower in
@@ -95,6 +100,7 @@ pub record FractionReads (a b : ℤ) : Type 0 where
   pub minus_num : Reads (pos 0 -ℤ a)
   pub minus_den : Reads (pos 0 -ℤ b)
 
+-- each of them is small
 pub fraction_reads : (a b : ℤ) → IsSmall (fraction a b) → FractionReads a b
 fraction_reads a b p =
     let zero : AtMost 0 (pos 0) = record { size = omega arith } in

@@ -1,2 +1,3 @@
 pub mod RightAngledMetrics
+pub mod Numbered
 pub mod Found

@@ -8,7 +8,7 @@ use Rattle.std.proofs.Common.{◌≡◌, refl, sym, ap, subst, ◌∙◌, ℕ, z
 use Rattle.std.specs.Prelude.{ℤ, pos, negsuc, ◌+ℤ◌, ◌*ℤ◌, ◌≤ℤ◌, ◌<ℤ◌, unsigned_abs}
 use Rattle.std.proofs.lemmas.Int.{ints, unsigned_abs-mul}
 use Rattle.std.proofs.Math.Nat.{mul-le-mul_left, mul-le-mul_right}
-use Rattle.ring.specs.Ring.{Expr, var, con, quoted, ◌:+◌, ◌:*◌}
+use Rattle.ring.specs.Ring.{Expr, var, con, quoted, ◌:+◌, ◌:-◌, ◌:*◌}
 use Rattle.ring.specs.Size.{AtMost}
 use Rattle.matrix3.specs.declared.matrix.Mat3.{Mat3}
 use Rattle.matrix3.specs.Matrices.{entries, matrix_of_variables}
@@ -17,7 +17,10 @@ use Rattle.crystal_spec.specs.Matrices.{Matrix, product, determinant, adjugate}
 use Rattle.crystal_spec.specs.Crystals.{IsPositive, KeepsMetric}
 use Rattle.crystal_spec.proofs.Identities.{by_integers}
 use Rattle.crystal_spec.proofs.Isometries.{determinant-isometry}
+use Rattle.crystal_spec.proofs.Entrywise.{matrix_same}
 use Rattle.crystal.specs.Bounds.{EntriesAtMost}
+use Rattle.crystal.specs.Cells.{IsSymmetric}
+use Rattle.mag_ops.specs.RightAngled.{IsRightAngled}
 
 -- the metric tensor of axes at right angles with these squared lengths
 abbrev pub diagonal : ℤ → ℤ → ℤ → Matrix
@@ -164,3 +167,24 @@ right_angled_entries w a b c pa pb pc p k =
       a32 = entry_small c b w.a32 (adjugate w).a23 (determinant w) pc second.2 one (entry32 w a b c k);
       a33 = entry_small c c w.a33 (adjugate w).a33 (determinant w) pc third.2 one (entry33 w a b c k);
     }
+
+positive_factor : (a b : ℤ) → pos 0 <ℤ a → pos 0 <ℤ (a *ℤ b) → pos 0 <ℤ b
+positive_factor (pos a) (pos zero) p q = absurd (omega (arith, ints))
+positive_factor (pos a) (pos (suc b)) p q = omega (arith, ints)
+positive_factor (pos a) (negsuc b) p q = absurd (omega (arith, ints))
+positive_factor (negsuc a) b p q = absurd (omega (arith, ints))
+
+-- the diagonal of a positive right-angled metric
+positive_diagonal : (a b c : ℤ) → IsPositive (diagonal a b c) → (pos 0 <ℤ b) × (pos 0 <ℤ c)
+positive_diagonal a b c p =
+    let second : pos 0 <ℤ (a *ℤ b) = subst (λ (z : ℤ). pos 0 <ℤ z) (by_integers (a ∷ b ∷ c ∷ []) (var 0 :* var 1 :- con (pos 0) :* con (pos 0)) (var 0 :* var 1) refl) p.second in
+    let third : pos 0 <ℤ ((a *ℤ b) *ℤ c) = subst (λ (z : ℤ). pos 0 <ℤ z) (by_integers (a ∷ b ∷ c ∷ []) (formulas.determinant quoted (record { a11 = var 0; a12 = con (pos 0); a13 = con (pos 0); a21 = con (pos 0); a22 = var 1; a23 = con (pos 0); a31 = con (pos 0); a32 = con (pos 0); a33 = var 2 })) (var 0 :* var 1 :* var 2) refl) p.third in
+    (positive_factor a b p.first second, positive_factor (a *ℤ b) c second third)
+
+-- the same, of a metric tensor that is right-angled
+pub isometry_small : (g w : Matrix) → IsPositive g → IsSymmetric g → IsRightAngled g → KeepsMetric g w → EntriesAtMost 1 w
+isometry_small g w p s r k =
+    let is : diagonal g.a11 g.a22 g.a33 ≡ g = matrix_same refl (sym r.ab) (sym r.ac) (sym (s.ab ∙ r.ab)) refl (sym r.bc) (sym (s.ac ∙ r.ac)) (sym (s.bc ∙ r.bc)) refl in
+    let positive = subst IsPositive (sym is) p in
+    let more = positive_diagonal g.a11 g.a22 g.a33 positive in
+    right_angled_entries w g.a11 g.a22 g.a33 p.first more.0 more.1 positive (subst (λ (m : Matrix). KeepsMetric m w) (sym is) k)

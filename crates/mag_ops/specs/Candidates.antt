@@ -1,12 +1,17 @@
--- The matrices that are tried: those of entries -1, 0 and 1, numbered by their digits in the base 3.
---   candidate k            the matrix of number k
---   IsKeptAs c w s o       o is the operation of matrix w and sign s without translation, and keeps the crystal
---   IsFoundBelow c k o     o is such an operation of a matrix whose number is below k
-use Rattle.std.specs.Prelude.{◌≡◌, ℕ, ℤ, pos, ◌/◌, ◌%◌, ◌<◌, ◌-ℤ◌}
+-- The operations that are tried.
+--   candidate k            the matrix of entries -1, 0 and 1 whose digits in the base 3, less one, are those of k
+--   IsKeptAs c w t s o     o is the operation of matrix w, translation part t and sign s, and keeps the crystal
+--   IsOnto c w i o         o is a symmetry operation of matrix w that carries the first atom onto atom number i, of its
+--                          species
+--   IsFromAtoms c w i o    it carries the first atom onto one of the first i atoms so
+--   IsKeptBy c w o         o is a symmetry operation of matrix w
+--   IsFoundBelow c k o     o is a symmetry operation of a matrix whose number is below k
+use Rattle.std.specs.Prelude.{◌≡◌, ℕ, ℤ, pos, ◌/◌, ◌%◌, ◌<◌, ◌-ℤ◌, slice_get, Some}
 use Rattle.crystal_spec.specs.declared.Sign.{Sign}
-use Rattle.crystal_spec.specs.Matrices.{Matrix, Triple}
-use Rattle.crystal_spec.specs.Crystals.{Structure, Keeps}
-use Rattle.crystal_spec.specs.Operations.{Operation, sign_factor}
+use Rattle.crystal_spec.specs.Matrices.{Matrix, Triple, image, difference}
+use Rattle.crystal_spec.specs.Crystals.{Site, Structure, Keeps}
+use Rattle.crystal_spec.specs.Operations.{Operation, IsSymmetryOperation, sign_factor}
+use Rattle.crystal.specs.Carrying.{FoldsTo}
 
 -- the digit at this power of 3, less one
 abbrev pub entry_at : ℕ → ℕ → ℤ
@@ -15,16 +20,33 @@ entry_at k power = pos (k / power % 3) -ℤ pos 1
 abbrev pub candidate : ℕ → Matrix
 candidate k = record { a11 = entry_at k 6561; a12 = entry_at k 2187; a13 = entry_at k 729; a21 = entry_at k 243; a22 = entry_at k 81; a23 = entry_at k 27; a31 = entry_at k 9; a32 = entry_at k 3; a33 = entry_at k 1 }
 
-abbrev pub no_translation : Triple
-no_translation = record { x = pos 0; y = pos 0; z = pos 0 }
-
-pub record IsKeptAs (c : Structure) (w : Matrix) (sign : Sign) (o : Operation) : Type 0 where
+pub record IsKeptAs (c : Structure) (w : Matrix) (t : Triple) (sign : Sign) (o : Operation) : Type 0 where
   pub same_matrix : o.matrix ≡ w
-  pub untranslated : o.translation ≡ no_translation
+  pub same_translation : o.translation ≡ t
   pub same_sign : o.sign ≡ sign
-  pub keeps : Keeps c w no_translation (sign_factor sign)
+  pub keeps : Keeps c w t (sign_factor sign)
+
+pub record IsOnto (c : Structure) (w : Matrix) (i : ℕ) (o : Operation) : Type 0 where
+  pub first : Site
+  pub is_first : slice_get c.sites 0 ≡ Some first
+  pub site : Site
+  pub is_site : slice_get c.sites i ≡ Some site
+  pub same_species : site.species ≡ first.species
+  pub same_matrix : o.matrix ≡ w
+  pub translation : FoldsTo c.n (difference site.position (image w first.position)) o.translation
+  pub keeps : Keeps c w o.translation (sign_factor o.sign)
+
+pub record IsFromAtoms (c : Structure) (w : Matrix) (i : ℕ) (o : Operation) : Type 0 where
+  pub number : ℕ
+  pub below : number < i
+  pub onto : IsOnto c w number o
+
+pub record IsKeptBy (c : Structure) (w : Matrix) (o : Operation) : Type 0 where
+  pub same_matrix : o.matrix ≡ w
+  pub symmetry : IsSymmetryOperation c o
 
 pub record IsFoundBelow (c : Structure) (k : ℕ) (o : Operation) : Type 0 where
   pub number : ℕ
   pub below : number < k
-  pub kept : IsKeptAs c (candidate number) o.sign o
+  pub same_matrix : o.matrix ≡ candidate number
+  pub symmetry : IsSymmetryOperation c o

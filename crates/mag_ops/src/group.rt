@@ -1,13 +1,13 @@
-ghost use Rattle.std.specs.Prelude.{◌≡◌, ◌↔◌, ◌⊎◌, OnOk, OnErr, IfOk, IsTrue};
+ghost use Rattle.std.specs.Prelude.{◌≡◌, ◌↔◌, ◌⊎◌, ◌<◌, length, OnOk, IfOk, IsTrue};
 ghost use Rattle.crystal_spec.specs.Increasing.{IsMember};
-ghost use Rattle.crystal_spec.specs.Operations.{Operation, ListsAll};
-ghost use Rattle.crystal.specs.Views.{metric_of};
+ghost use Rattle.crystal_spec.specs.Operations.{Operation, IsWithinCell, ListsAll};
+ghost use Rattle.crystal.specs.Views.{metric_of, triple_of};
 ghost use Rattle.crystal.specs.Bounds.{EntriesAtMost};
-ghost use Rattle.mag_ops.specs.Candidates.{IsKeptAs};
+ghost use Rattle.mag_ops.specs.Candidates.{IsKeptAs, IsKeptBy, IsOnto};
 ghost use Rattle.mag_ops.specs.RightAngled.{IsRightAngled};
 
 use crate::candidate::{CANDIDATES, candidate};
-use crystal::{Cell, Metric, Places, Sign, Steps};
+use crystal::{Cell, Metric, Places, Sign, Steps, translation_onto};
 use exact_num::{Exact, Int};
 use matrix3::Mat3;
 use op_group::{Op, OpList};
@@ -21,24 +21,77 @@ pub fn is_right_angled(metric: &Metric) -> bool
     metric.bc.is_zero() && metric.ac.is_zero() && metric.ab.is_zero()
 }
 
-/// Puts the operation of this matrix and sign, without translation, into the list, where it keeps the crystal.
+/// Puts the operation into the list, where it keeps the crystal.
 fn add_kept<L: Ledger>(
     places: &Places,
+    op: Op,
+    found: &mut OpList,
+    steps: &mut Steps<L>,
+) -> Result<(), AllocError>
+    requires small { EntriesAtMost 1 op.w }
+    requires places_n { IsWithinCell places.now.n (triple_of op.shift) }
+    requires found_n { found.old.n ≡ places.now.n }
+    ensures n { found.new.n ≡ places.now.n }
+    ensures members { OnOk result ((o : Operation) → IsMember o found.new.operations ↔ (IsKeptAs places.now op.w (triple_of op.shift) op.sign o ⊎ IsMember o found.old.operations)) }
+{
+    if places.keeps_map(&op.w, op.shift, op.sign, steps) {
+        found.insert(op)?;
+    }
+    Ok(())
+}
+
+/// Puts the operations of this matrix that keep the crystal and carry the first atom onto atom number i into the list.
+fn add_kept_onto<L: Ledger>(
+    places: &Places,
     w: &Mat3<Int>,
-    sign: Sign,
+    i: usize,
     found: &mut OpList,
     steps: &mut Steps<L>,
 ) -> Result<(), AllocError>
     requires small { EntriesAtMost 1 w.now }
-    requires places_n { places.now.n ≡ 1 }
-    requires found_n { found.old.n ≡ 1 }
-    ensures n { found.new.n ≡ 1 }
-    ensures members { OnOk result ((o : Operation) → IsMember o found.new.operations ↔ (IsKeptAs places.now w.now sign o ⊎ IsMember o found.old.operations)) }
+    requires i { i < length places.now.sites }
+    requires found_n { found.old.n ≡ places.now.n }
+    ensures n { found.new.n ≡ places.now.n }
+    ensures members { OnOk result ((o : Operation) → IsMember o found.new.operations ↔ (IsOnto places.now w.now i o ⊎ IsMember o found.old.operations)) }
 {
-    let shift = [0u32; 3];
-    if places.keeps_map(w, shift, sign, steps) {
-        found.insert(Op { w: *w, shift, sign })?;
+    let cell = places.cell();
+    let _form = cell.count();
+    let first = cell.atom(0);
+    let atom = cell.atom(i);
+    if atom.species != first.species {
+        return Ok(());
     }
+    let w = *w;
+    let shift = translation_onto(&w, first.place, atom.place, cell.n());
+    let sign = Sign::Same;
+    add_kept(places, Op { w, shift, sign }, found, steps)?;
+    let sign = Sign::Reversed;
+    add_kept(places, Op { w, shift, sign }, found, steps)?;
+    Ok(())
+}
+
+/// Puts the operations of this matrix that keep the crystal into the list. Each carries the first atom onto an atom of its
+/// species, so only the translation parts that do so are tried.
+fn add_kept_by<L: Ledger>(
+    places: &Places,
+    w: &Mat3<Int>,
+    found: &mut OpList,
+    steps: &mut Steps<L>,
+) -> Result<(), AllocError>
+    requires small { EntriesAtMost 1 w.now }
+    requires found_n { found.old.n ≡ places.now.n }
+    ensures n { found.new.n ≡ places.now.n }
+    ensures members { OnOk result ((o : Operation) → IsMember o found.new.operations ↔ (IsKeptBy places.now w.now o ⊎ IsMember o found.old.operations)) }
+{
+    let cell = places.cell();
+    let count = cell.count();
+    if !cell.metric().is_kept_by(w) {
+        return Ok(());
+    }
+    for i in 0..count {
+        add_kept_onto(places, w, i, found, steps)?;
+    }
+    let _first = cell.atom(0);
     Ok(())
 }
 
@@ -53,13 +106,11 @@ fn all_kept<L: Ledger>(
     ensures exact { IfOk result (λ list. ListsAll places.now list.operations) }
 {
     let cell = places.cell();
+    let _form = cell.count();
     let mut found = OpList::new(alloc, cell.n());
     for number in 0..CANDIDATES {
-        let w = candidate(number);
-        add_kept(places, &w, Sign::Same, &mut found, steps)?;
-        add_kept(places, &w, Sign::Reversed, &mut found, steps)?;
+        add_kept_by(places, &candidate(number), &mut found, steps)?;
     }
-    let _metric = cell.metric();
     let _count = found.count();
     Ok(found)
 }

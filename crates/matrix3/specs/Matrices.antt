@@ -9,6 +9,7 @@
 --   adjugate a              the matrix of signed minors, whose product with a is the determinant times the identity
 --   scalar k                k times the identity
 --   sum_of u v              the sum of two columns
+--   difference u v          the difference of two columns
 --   multiple k v            k times a column
 --   matrix_map f a          f at each entry; vector_map f v likewise
 --   EachEntry P a           P holds for each entry; EachCoordinate P v likewise
@@ -83,6 +84,10 @@ module _ {R : Type 0} (o : Ops R) where
   -- the sum of two columns
   abbrev pub sum_of : Vec3 R → Vec3 R → Vec3 R
   sum_of u v = record { x = u.x ⊕ v.x; y = u.y ⊕ v.y; z = u.z ⊕ v.z }
+
+  -- the difference of two columns
+  abbrev pub difference : Vec3 R → Vec3 R → Vec3 R
+  difference u v = record { x = u.x ⊕ opp v.x; y = u.y ⊕ opp v.y; z = u.z ⊕ opp v.z }
 
   -- k times a column
   abbrev pub multiple : R → Vec3 R → Vec3 R

@@ -1,4 +1,8 @@
 -- A product that is cancelled crosswise is in lowest terms.
+--   crosswise_is            the cancelled product is in lowest terms
+--   multiply-crosswise      and it is the product
+-- The argument: of a / b and c / d in lowest terms, a shares no factor with b, nor c with d; after the greatest common
+-- divisors of a and d and of c and b are taken out, no part above shares a factor with a part below.
 use Rattle.std.proofs.Common.{◌≡◌, ℕ, ◌*◌, ◌/◌, [], ◌∷◌, ℤ, pos, ◌*ℤ◌, ◌<ℤ◌, unsigned_abs, refl, sym, ap₂, ◌∙◌, subst}
 use Rattle.std.specs.Int.{◌∣◌}
 use Rattle.std.specs.Int.RustNames.{int_div}
@@ -63,6 +67,7 @@ module _ (a b c d : ℤ) (p : IsLowest (fraction a b)) (q : IsLowest (fraction c
   w_positive : pos 0 <ℤ w
   w_positive = factor-positive w g (subst (λ n. pos 0 <ℤ n) (sym d_is) q.positive)
 
+  -- the cancelled product is in lowest terms
   pub crosswise_is : IsLowest (fraction (x *ℤ z) (y *ℤ w))
   crosswise_is =
       let ga = quotient-divides (unsigned_abs a) g (gcd_is (unsigned_abs a) (unsigned_abs d)).0 in

@@ -1,4 +1,9 @@
--- Fractions in lowest terms are a ring: each law is an equation of cross products, and lowest terms are unique.
+-- Lowest terms exist and are unique, and sums, products, quotients and reciprocals are in lowest terms.
+--   lowest_parts      n and d are a positive multiple of their lowest terms
+--   lowest_is         the lowest terms are in lowest terms
+--   lowest_unique     two fractions in lowest terms with one cross product are one
+--   lowest_same       two pairs with one cross product have the same lowest terms
+--   plus-lowest, multiply-lowest    the sum and the product of lowest terms, from any terms
 use Rattle.std.proofs.Common.{◌≡◌, ℕ, zero, suc, ◌*◌, ◌/◌, ◌<◌, [], ◌∷◌, ℤ, pos, negsuc, ◌+ℤ◌, ◌*ℤ◌, neg_ℤ, ◌<ℤ◌, ◌≤ℤ◌, unsigned_abs, refl, sym, ap, ap₂, ◌∙◌, subst, subst₂, arith}
 use Rattle.std.specs.Int.{◌∣◌}
 use Rattle.std.specs.Int.RustNames.{int_div}
@@ -14,24 +19,28 @@ use Rattle.numbers.proofs.GcdLemmas.{gcd_is, gcd-positive, gcd-one_right, gcd-sw
 
 -- ---- sizes and quotients
 
+-- the opposite has the same size
 pub abs-neg : (z : ℤ) → unsigned_abs (neg_ℤ z) ≡ unsigned_abs z
 abs-neg z = omega (arith, ints)
 
 zero_of_abs : (z : ℤ) → unsigned_abs z ≡ 0 → z ≡ pos 0
 zero_of_abs z h = omega (arith, ints)
 
+-- the size of a positive number is positive
 pub abs-positive : (z : ℤ) → pos 0 <ℤ z → 0 < unsigned_abs z
 abs-positive z h = omega (arith, ints)
 
 pos-abs : (z : ℤ) → pos 0 <ℤ z → pos (unsigned_abs z) ≡ z
 pos-abs z h = omega (arith, ints)
 
+-- a positive natural number is a positive integer
 pub pos-positive : (n : ℕ) → 0 < n → pos 0 <ℤ pos n
 pos-positive n h = omega (arith, ints)
 
 positive-pos : (n : ℕ) → pos 0 <ℤ pos n → 0 < n
 positive-pos n h = omega (arith, ints)
 
+-- the size of a quotient is the quotient of the sizes
 pub quotient-abs : (z : ℤ) (g : ℕ) → unsigned_abs (int_div z (pos g)) ≡ unsigned_abs z / g
 quotient-abs (pos a) g = refl
 quotient-abs (negsuc a) g = abs-neg (pos (suc a / g))
@@ -40,11 +49,13 @@ neg-times : (x y : ℤ) → neg_ℤ x *ℤ y ≡ neg_ℤ (x *ℤ y)
 neg-times x y =
     by_ring int_ops int_laws (x ∷ y ∷ []) (opposite (var 0) :* var 1) (opposite (var 0 :* var 1)) refl
 
+-- a quotient by a divisor is exact
 pub quotient-exact : (z : ℤ) (g : ℕ) → g ∣ unsigned_abs z → int_div z (pos g) *ℤ pos g ≡ z
 quotient-exact (pos a) g h = ap pos (div-mul_cancel g h)
 quotient-exact (negsuc a) g h =
     neg-times (pos (suc a / g)) (pos g) ∙ ap (λ n. neg_ℤ (pos n)) (div-mul_cancel g h)
 
+-- a factor of a positive product with a natural number is positive
 pub factor-positive : (x : ℤ) (n : ℕ) → pos 0 <ℤ (x *ℤ pos n) → pos 0 <ℤ x
 factor-positive (pos zero) n h = omega (arith, ints)
 factor-positive (pos (suc m)) n h = pos-positive (suc m) (omega arith)
@@ -73,6 +84,7 @@ pub record Parts (n d : ℤ) (p : Fraction) : Type 0 where
   pub upper : p.numerator *ℤ factor ≡ n
   pub lower : p.denominator *ℤ factor ≡ d
 
+-- n and d are a positive multiple of their lowest terms
 pub lowest_parts : (n d : ℤ) → pos 0 <ℤ d → Parts n d (lowest n d)
 unfolding lowest
 lowest_parts n d h =
@@ -84,6 +96,7 @@ lowest_parts n d h =
       lower = quotient-exact d _ is.1;
     }
 
+-- the lowest terms are in lowest terms
 pub lowest_is : (n d : ℤ) → pos 0 <ℤ d → IsLowest (lowest n d)
 unfolding lowest
 lowest_is n d h =
@@ -93,6 +106,7 @@ lowest_is n d h =
       coprime = ap₂ gcd (quotient-abs n g) (quotient-abs d g) ∙ coprime-quotients (unsigned_abs n) (unsigned_abs d) (abs-positive d h);
     }
 
+-- two fractions in lowest terms with one cross product are one
 pub lowest_unique : (p q : Fraction) → IsLowest p → IsLowest q → p.numerator *ℤ q.denominator ≡ q.numerator *ℤ p.denominator → p ≡ q
 lowest_unique p q h k e =
     let sizes = sym (unsigned_abs-mul p.numerator q.denominator) ∙ ap unsigned_abs e ∙ unsigned_abs-mul q.numerator p.denominator in
@@ -101,9 +115,11 @@ lowest_unique p q h k e =
     let top : p.numerator ≡ q.numerator = cancel _ _ _ k.positive (e ∙ ap (λ w. q.numerator *ℤ w) same) in
     ap₂ (λ (n d : ℤ). let r : Fraction = record { numerator = n; denominator = d } in r) top same
 
+-- an integer over 1 is in lowest terms
 pub whole_is : (z : ℤ) → IsLowest (whole z)
 whole_is z = record { positive = pos-positive 1 (omega arith); coprime = gcd-one_right (unsigned_abs z) }
 
+-- so is the opposite of what is
 pub negative_is : (p : Fraction) → IsLowest p → IsLowest (negative p)
 negative_is p h = record {
   positive = h.positive;
@@ -135,7 +151,7 @@ lowest_fixed p h =
     crossed q u =
         ap (λ w. q.numerator *ℤ w) (sym u.lower) ∙ by_ring int_ops int_laws (q.numerator ∷ q.denominator ∷ u.factor ∷ []) (var 0 :* (var 1 :* var 2)) ((var 0 :* var 2) :* var 1) refl ∙ ap (λ w. w *ℤ q.denominator) u.upper
 
--- the sum and the product of lowest terms, from any terms
+-- the sum of lowest terms, from any terms
 pub plus-lowest : (n d m e : ℤ) → pos 0 <ℤ d → pos 0 <ℤ e → plus (lowest n d) (lowest m e) ≡ lowest (n *ℤ e +ℤ m *ℤ d) (d *ℤ e)
 plus-lowest n d m e h k =
     go (lowest n d) (lowest m e) (lowest_parts n d h) (lowest_parts m e k) (lowest_is n d h) (lowest_is m e k)
@@ -144,6 +160,7 @@ plus-lowest n d m e h k =
     go p q u v x y =
         lowest_same _ _ _ _ (mul_pos _ _ x.positive y.positive) (mul_pos _ _ h k) (subst₂ (λ s t. (p.numerator *ℤ q.denominator +ℤ q.numerator *ℤ p.denominator) *ℤ (s *ℤ t) ≡ (n *ℤ t +ℤ m *ℤ s) *ℤ (p.denominator *ℤ q.denominator)) u.lower v.lower (subst₂ (λ s t. (p.numerator *ℤ q.denominator +ℤ q.numerator *ℤ p.denominator) *ℤ ((p.denominator *ℤ u.factor) *ℤ (q.denominator *ℤ v.factor)) ≡ (s *ℤ (q.denominator *ℤ v.factor) +ℤ t *ℤ (p.denominator *ℤ u.factor)) *ℤ (p.denominator *ℤ q.denominator)) u.upper v.upper (by_ring int_ops int_laws (p.numerator ∷ p.denominator ∷ q.numerator ∷ q.denominator ∷ u.factor ∷ v.factor ∷ []) ((var 0 :* var 3 :+ var 2 :* var 1) :* ((var 1 :* var 4) :* (var 3 :* var 5))) (((var 0 :* var 4) :* (var 3 :* var 5) :+ (var 2 :* var 5) :* (var 1 :* var 4)) :* (var 1 :* var 3)) refl)))
 
+-- the product of lowest terms, from any terms
 pub multiply-lowest : (n d m e : ℤ) → pos 0 <ℤ d → pos 0 <ℤ e → multiply (lowest n d) (lowest m e) ≡ lowest (n *ℤ m) (d *ℤ e)
 multiply-lowest n d m e h k =
     go (lowest n d) (lowest m e) (lowest_parts n d h) (lowest_parts m e k) (lowest_is n d h) (lowest_is m e k)
@@ -152,16 +169,17 @@ multiply-lowest n d m e h k =
     go p q u v x y =
         lowest_same _ _ _ _ (mul_pos _ _ x.positive y.positive) (mul_pos _ _ h k) (subst₂ (λ s t. (p.numerator *ℤ q.numerator) *ℤ (s *ℤ t) ≡ (n *ℤ m) *ℤ (p.denominator *ℤ q.denominator)) u.lower v.lower (subst₂ (λ s t. (p.numerator *ℤ q.numerator) *ℤ ((p.denominator *ℤ u.factor) *ℤ (q.denominator *ℤ v.factor)) ≡ (s *ℤ t) *ℤ (p.denominator *ℤ q.denominator)) u.upper v.upper (by_ring int_ops int_laws (p.numerator ∷ p.denominator ∷ q.numerator ∷ q.denominator ∷ u.factor ∷ v.factor ∷ []) ((var 0 :* var 2) :* ((var 1 :* var 4) :* (var 3 :* var 5))) (((var 0 :* var 4) :* (var 2 :* var 5)) :* (var 1 :* var 3)) refl)))
 
--- lowest terms as the code finds them
+-- lowest terms from any way to find the common divisor
 pub lowest_from : (n d g : ℤ) → g ≡ pos (gcd (unsigned_abs n) (unsigned_abs d)) → fraction (int_div n g) (int_div d g) ≡ lowest n d
 unfolding lowest
 lowest_from n d g e = ap (λ w. fraction (int_div n w) (int_div d w)) e
 
+-- the quotient by a positive number
 pub quotient-positive : (n d : ℤ) → pos 0 <ℤ d → quotient n d ≡ lowest n d
 quotient-positive n (pos d) h = refl
 quotient-positive n (negsuc d) h = absurd h.lt
 
--- as the code negates, from 0
+-- the quotient by a negative number, with the opposites written as differences from 0
 pub quotient-negative : (n d : ℤ) → d <ℤ pos 0 → quotient n d ≡ lowest (pos 0 +ℤ neg_ℤ n) (pos 0 +ℤ neg_ℤ d)
 quotient-negative n (pos d) h = absurd (omega (arith, ints))
 quotient-negative n (negsuc d) h =
@@ -174,6 +192,7 @@ zero_is n d h e =
 
 -- ---- reciprocals
 
+-- the reciprocal of what is not 0 is in lowest terms
 pub reciprocal_is : (n d : ℤ) → IsLowest (fraction n d) → (n ≡ pos 0 → ⊥) → IsLowest (reciprocal (fraction n d))
 reciprocal_is (pos zero) d h other = absurd (other refl)
 reciprocal_is (pos (suc n)) d h other = record {
@@ -185,11 +204,12 @@ reciprocal_is (negsuc n) d h other = record {
   coprime = ap (λ m. gcd m (suc n)) (abs-neg d) ∙ gcd-swap (unsigned_abs d) (suc n) ∙ h.coprime;
 }
 
--- as the code finds it
+-- the reciprocal of what is not negative
 pub reciprocal-positive : (n d : ℤ) → pos 0 ≤ℤ n → reciprocal (fraction n d) ≡ fraction d n
 reciprocal-positive (pos n) d h = refl
 reciprocal-positive (negsuc n) d h = absurd h.le
 
+-- the reciprocal of what is negative, with the opposites written as differences from 0
 pub reciprocal-negative : (n d : ℤ) → n <ℤ pos 0 → reciprocal (fraction n d) ≡ fraction (pos 0 +ℤ neg_ℤ d) (pos 0 +ℤ neg_ℤ n)
 reciprocal-negative (pos n) d h = absurd (omega (arith, ints))
 reciprocal-negative (negsuc n) d h =

@@ -1,4 +1,5 @@
--- Fractions in lowest terms are a commutative ring.
+-- Fractions in lowest terms are a commutative ring: each law is an equation of cross products.
+--   fraction_laws    its laws
 use Rattle.std.proofs.Common.{◌≡◌, List, [], ◌∷◌, ℤ, pos, negsuc, ◌+ℤ◌, ◌*ℤ◌, ◌<ℤ◌, refl, sym, ap, ap₂, ◌∙◌}
 use Rattle.ring.specs.Ring.{int_ops, var, con, opposite, ◌:+◌, ◌:*◌}
 use Rattle.ring.proofs.RingSound.{LawsOn}
@@ -90,6 +91,7 @@ whole-sum a b =
 whole-product : (a b : ℤ) → whole (a *ℤ b) ≡ multiply (whole a) (whole b)
 whole-product a b = sym (lowest_fixed _ (whole_is (a *ℤ b)))
 
+-- the laws of fractions in lowest terms
 pub fraction_laws : LawsOn fraction_ops IsLowest
 fraction_laws = record {
   int_in = whole_is;

@@ -1,4 +1,7 @@
 -- Residues modulo m are a commutative ring.
+--   residue_splits    a number is its residue and a multiple of the modulus
+--   residue_same      numbers that differ by a multiple of the modulus have one residue
+--   residue_laws      the laws
 use Rattle.std.proofs.Common.{◌≡◌, ℕ, zero, suc, ◌+◌, ◌-◌, ◌*◌, ◌/◌, ◌%◌, ◌<◌, [], ◌∷◌, ℤ, pos, negsuc, ◌+ℤ◌, ◌*ℤ◌, neg_ℤ, ◌<ℤ◌, ◌≤ℤ◌, unsigned_abs, refl, sym, ap, ◌∙◌, arith}
 use Rattle.std.proofs.lemmas.Int.{ints}
 use Rattle.std.proofs.Math.Nat.{mod-eq_of_lt}
@@ -14,6 +17,7 @@ pub record Within (m : ℕ) (z : ℤ) : Type 0 where
   pub low : pos 0 ≤ℤ z
   pub high : z <ℤ pos m
 
+-- the residue is from 0 to m - 1
 pub residue_within : (m : ℕ) (z : ℤ) → Within (suc m) (residue (suc m) z)
 unfolding residue
 residue_within m (pos a) = record { low = omega (arith, ints); high = omega (arith, ints) }
@@ -49,6 +53,7 @@ residue_same (suc m) x y k e =
     let v = residue_splits (suc m) y in
     unique (suc m) _ _ (u.0 +ℤ k +ℤ neg_ℤ v.0) (residue_within m x) (residue_within m y) (u.1 ∙ ap (λ w. w +ℤ u.0 *ℤ pos (suc m)) e ∙ by_ring int_ops int_laws (y ∷ k ∷ u.0 ∷ v.0 ∷ pos (suc m) ∷ []) ((var 0 :+ var 1 :* var 4) :+ var 2 :* var 4) ((var 0 :+ var 3 :* var 4) :+ ((var 2 :+ var 1) :+ opposite (var 3)) :* var 4) refl ∙ ap (λ w. w +ℤ (u.0 +ℤ k +ℤ neg_ℤ v.0) *ℤ pos (suc m)) (sym v.1))
 
+-- a residue is its own residue
 pub residue_is : (m : ℕ) (z : ℤ) → IsResidue m (residue m z)
 residue_is m z = let s = residue_splits m z in residue_same m (residue m z) z s.0 s.1
 
@@ -70,6 +75,7 @@ mul_right : (m : ℕ) (x y : ℤ) → residue m (x *ℤ residue m y) ≡ residue
 mul_right m x y =
     ap (residue m) (int_laws.mul_comm x (residue m y)) ∙ mul_left m y x ∙ ap (residue m) (int_laws.mul_comm y x)
 
+-- the laws of residues modulo m
 pub residue_laws : (m : ℕ) → LawsOn (residue_ops m) (IsResidue m)
 residue_laws m = record {
   int_in = residue_is m;
@@ -88,13 +94,15 @@ residue_laws m = record {
   int_mul = λ a b. sym (mul_left m a (residue m b) ∙ mul_right m a b);
 }
 
--- ---- residues as the code finds them
+-- ---- residues by remainders of natural numbers
 
+-- of a natural number
 pub residue-pos : (m n : ℕ) → 0 < m → residue m (pos n) ≡ pos (n % m)
 unfolding residue
 residue-pos zero n h = absurd (omega arith)
 residue-pos (suc m) n h = refl
 
+-- of an integer, by its euclidean remainder
 pub residue-euclid : (m : ℕ) (z : ℤ) → 0 < m → residue m z ≡ int_rem_euclid z (pos m)
 unfolding residue
 residue-euclid zero z h = absurd (omega arith)
@@ -104,20 +112,25 @@ residue-euclid (suc m) z h = refl
 pub residue_below : (m n : ℕ) → n < m → IsResidue m (pos n)
 residue_below m n h = residue-pos m n (omega arith) ∙ ap pos (mod-eq_of_lt h)
 
+-- of a sum
 pub residue-sum : (m a b : ℕ) → 0 < m → pos ((a + b) % m) ≡ residue m (pos a +ℤ pos b)
 residue-sum m a b h = sym (residue-pos m (a + b) h)
 
+-- of a product
 pub residue-product : (m a b : ℕ) → 0 < m → pos ((a * b) % m) ≡ residue m (pos a *ℤ pos b)
 residue-product m a b h = sym (residue-pos m (a * b) h)
 
+-- of an opposite
 pub residue-negative : (m b : ℕ) → b < m → pos ((m - b) % m) ≡ residue m (neg_ℤ (pos b))
 residue-negative m b h =
     sym (residue-pos m (m - b) (omega arith)) ∙ residue_same m (pos (m - b)) (neg_ℤ (pos b)) (pos 1) (omega (arith, ints))
 
+-- of a difference
 pub residue-difference : (m a b : ℕ) → b < m → pos ((a + (m - b)) % m) ≡ residue m (pos a +ℤ residue m (neg_ℤ (pos b)))
 residue-difference m a b h =
     sym (residue-pos m (a + (m - b)) (omega arith)) ∙ residue_same m (pos (a + (m - b))) (pos a +ℤ neg_ℤ (pos b)) (pos 1) (omega (arith, ints)) ∙ sym (add_right m (pos a) (neg_ℤ (pos b)))
 
+-- a residue is the integer of its size
 pub residue-abs : (m : ℕ) (z : ℤ) → 0 < m → pos (unsigned_abs (residue m z)) ≡ residue m z
 unfolding residue
 residue-abs zero z h = absurd (omega arith)

@@ -1,4 +1,7 @@
 -- Strictly increasing lists of operations with translation parts within one cell.
+--   OperationList           an n and a list of operations
+--   AllWithinCell n os      the translation parts are from 0 to n - 1
+--   IsOperationList n os    they are, and the operations are strictly increasing
 use Rattle.std.specs.Prelude.{ℕ, List}
 use Rattle.crystal_spec.specs.Increasing.{IsIncreasing, IsMember}
 use Rattle.crystal_spec.specs.Operations.{Operation, compare_of, IsWithinCell}

@@ -8,3 +8,6 @@
 mod operations;
 
 pub use operations::ops_report;
+
+#[cfg(test)]
+mod tests;

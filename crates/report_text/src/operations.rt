@@ -6,7 +6,6 @@ ghost use Rattle.report_text.specs.OperationText.{plus_text, term_text, terms_te
 use crystal_spec::Sign;
 use exact_num::{Int, gcd};
 use io_edge::Bytes;
-use matrix3::Vec3;
 use op_group::{Op, OpList};
 use std::alloc::{AllocError, Global};
 
@@ -85,12 +84,14 @@ fn push_row(
     alloc: Global,
     out: &mut Bytes,
     n: u32,
-    row: Vec3<Int>,
+    x: Int,
+    y: Int,
+    z: Int,
     t: u32,
 ) -> Result<(), AllocError>
-    ensures { OnOk result (out.new ≡ out.old ++ row_text n row.x row.y row.z (pos t)) }
+    ensures { OnOk result (out.new ≡ out.old ++ row_text n x y z (pos t)) }
 {
-    push_terms(alloc, out, row.x.get(), row.y.get(), row.z.get())?;
+    push_terms(alloc, out, x.get(), y.get(), z.get())?;
     push_fraction(alloc, out, n, t)?;
     Ok(())
 }
@@ -111,41 +112,11 @@ fn push_operation(alloc: Global, out: &mut Bytes, n: u32, op: &Op) -> Result<(),
 {
     let w = op.w;
     let [x, y, z] = op.shift;
-    push_row(
-        alloc,
-        out,
-        n,
-        Vec3 {
-            x: w.a11,
-            y: w.a12,
-            z: w.a13,
-        },
-        x,
-    )?;
+    push_row(alloc, out, n, w.a11, w.a12, w.a13, x)?;
     out.push(b',')?;
-    push_row(
-        alloc,
-        out,
-        n,
-        Vec3 {
-            x: w.a21,
-            y: w.a22,
-            z: w.a23,
-        },
-        y,
-    )?;
+    push_row(alloc, out, n, w.a21, w.a22, w.a23, y)?;
     out.push(b',')?;
-    push_row(
-        alloc,
-        out,
-        n,
-        Vec3 {
-            x: w.a31,
-            y: w.a32,
-            z: w.a33,
-        },
-        z,
-    )?;
+    push_row(alloc, out, n, w.a31, w.a32, w.a33, z)?;
     out.push(b',')?;
     push_sign(out, op.sign)?;
     out.push(b'\n')?;

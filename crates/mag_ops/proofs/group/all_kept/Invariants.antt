@@ -7,6 +7,6 @@ use Rattle.mag_ops.proofs.group.all_kept.Given as goal
 -- found so far: exactly those of the matrices so far
 abbrev pub invariant-loop-number : goal.invariant-loop-number
 invariant-loop-number g l = record {
-  n : l.found.n ≡ 1;
+  n : l.found.n ≡ l.places.n;
   members : (o : Operation) → IsMember o l.found.operations ↔ IsFoundBelow l.places l.number o;
 }

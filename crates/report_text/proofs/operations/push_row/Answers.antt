@@ -4,6 +4,5 @@ use Rattle.report_text.proofs.operations.push_row.Goals as goal
 
 pub returns : goal.returns
 returns c =
-    let row = c.args.row in
-    let terms : c.push_terms.new.out ≡ c.args.out.now ++ terms_text row.x row.y row.z = search rules in
-    c.in_ok-push_fraction.ensures ∙ ap (λ (text : List ℕ). text ++ fraction_text c.args.n c.args.t) terms ∙ append_assoc c.args.out.now (terms_text row.x row.y row.z) (fraction_text c.args.n c.args.t)
+    let terms : c.push_terms.new.out ≡ c.args.out.now ++ terms_text c.args.x c.args.y c.args.z = search rules in
+    c.in_ok-push_fraction.ensures ∙ ap (λ (text : List ℕ). text ++ fraction_text c.args.n c.args.t) terms ∙ append_assoc c.args.out.now (terms_text c.args.x c.args.y c.args.z) (fraction_text c.args.n c.args.t)

@@ -1,0 +1,122 @@
+-- Cells with one name or one atom more, and what a cell's atoms are.
+use Rattle.std.proofs.Common.{◌≡◌, refl, sym, ap, subst, ◌∙◌, ◌⊎◌, inl, inr, ℕ, zero, suc, ◌+◌, ◌≤◌, ◌<◌, List, [], ◌∷◌, ◌++◌, length, map, arith, length-append, get_or}
+use Rattle.std.specs.Prelude.{slice_get, Some}
+use Rattle.crystal_spec.specs.Increasing.{IsMember, IsDistinct}
+use Rattle.crystal_spec.specs.Matrices.{Triple}
+use Rattle.crystal_spec.specs.Crystals.{Site, Structure}
+use Rattle.crystal_spec.specs.Operations.{IsWithinCell}
+use Rattle.crystal_spec.proofs.Images.{IsApart}
+use Rattle.crystal.specs.Occupants.{NoneAt}
+use Rattle.crystal.specs.Cells.{IsCell, IsSiteOf, AreSitesOf, AreApart}
+
+-- ---- one more
+sites_more : (m n : ℕ) (xs : List Site) (x : Site) → AreSitesOf m n xs → IsSiteOf m n x → AreSitesOf m n (xs ++ x ∷ [])
+sites_more m n [] x h k = (k, tt)
+sites_more m n (y ∷ ys) x h k = (h.0, sites_more m n ys x h.1 k)
+
+named_more : (m n : ℕ) (xs : List Site) → AreSitesOf m n xs → AreSitesOf (m + 1) n xs
+named_more m n [] h = tt
+named_more m n (y ∷ ys) h = (record { named = omega (arith, h.0.named); within = h.0.within; moment = h.0.moment }, named_more m n ys h.1)
+
+none_more : (p : Triple) (xs : List Site) (x : Site) → NoneAt p xs → (x.position ≡ p → ⊥) → NoneAt p (xs ++ x ∷ [])
+none_more p [] x h k = (k, tt)
+none_more p (y ∷ ys) x h k = (h.0, none_more p ys x h.1 k)
+
+apart_more : (xs : List Site) (x : Site) → AreApart xs → NoneAt x.position xs → AreApart (xs ++ x ∷ [])
+apart_more [] x h k = (tt, tt)
+apart_more (y ∷ ys) x h k = (none_more y.position ys x h.0 (λ e. k.0 (sym e)), apart_more ys x h.1 k.1)
+
+member_more : {X : Type 0} (x y : X) (xs : List X) → IsMember y (xs ++ x ∷ []) → IsMember y xs ⊎ (y ≡ x)
+member_more x y [] (inl e) = inr e
+member_more x y [] (inr m) = absurd m
+member_more x y (z ∷ zs) (inl e) = inl (inl e)
+member_more x y (z ∷ zs) (inr m) = by (member_more x y zs m)
+  where
+    by : IsMember y zs ⊎ (y ≡ x) → ((y ≡ z) ⊎ IsMember y zs) ⊎ (y ≡ x)
+    by (inl k) = inl (inr k)
+    by (inr e) = inr e
+
+distinct_more : {X : Type 0} (xs : List X) (x : X) → IsDistinct xs → (IsMember x xs → ⊥) → IsDistinct (xs ++ x ∷ [])
+distinct_more [] x h k = ((λ m. m), tt)
+distinct_more (y ∷ ys) x h k = ((λ m. by (member_more x y ys m)), distinct_more ys x h.1 (λ m. k (inr m)))
+  where
+    by : IsMember y ys ⊎ (y ≡ x) → ⊥
+    by (inl m) = h.0 m
+    by (inr e) = k (inl (sym e))
+
+first_more : (xs : List Site) (x s : Site) → 1 ≤ length xs → slice_get (xs ++ x ∷ []) 0 ≡ Some s → slice_get xs 0 ≡ Some s
+first_more [] x s h e = absurd (omega arith)
+first_more (y ∷ ys) x s h e = e
+
+length_more : {X : Type 0} (xs : List X) (x : X) → length (xs ++ x ∷ []) ≡ length xs + 1
+length_more xs x = length-append xs (x ∷ [])
+
+-- a cell with one atom more
+pub atom_more : (c : Structure) (x : Site) → IsCell c → IsSiteOf (length c.names) c.n x → NoneAt x.position c.sites → length c.sites < 512 → IsCell (record c { sites = c.sites ++ x ∷ [] })
+atom_more c x h k free few = record {
+  positive = h.positive;
+  symmetric = h.symmetric;
+  entries = h.entries;
+  scale_at_least = h.scale_at_least;
+  scale_at_most = h.scale_at_most;
+  n_at_least = h.n_at_least;
+  n_at_most = h.n_at_most;
+  k_at_least = h.k_at_least;
+  k_at_most = h.k_at_most;
+  names_differ = h.names_differ;
+  some = omega (arith, length_more c.sites x);
+  few = omega (arith, length_more c.sites x);
+  first = λ s e. h.first s (first_more c.sites x s h.some e);
+  sites = sites_more (length c.names) c.n c.sites x h.sites k;
+  apart = apart_more c.sites x h.apart free;
+}
+
+-- a cell with one name more
+pub name_more : (c : Structure) (name : List ℕ) → IsCell c → (IsMember name c.names → ⊥) → IsCell (record c { names = c.names ++ name ∷ [] })
+name_more c name h new = record {
+  positive = h.positive;
+  symmetric = h.symmetric;
+  entries = h.entries;
+  scale_at_least = h.scale_at_least;
+  scale_at_most = h.scale_at_most;
+  n_at_least = h.n_at_least;
+  n_at_most = h.n_at_most;
+  k_at_least = h.k_at_least;
+  k_at_most = h.k_at_most;
+  names_differ = distinct_more c.names name h.names_differ new;
+  some = h.some;
+  few = h.few;
+  first = h.first;
+  sites = subst (λ (m : ℕ). AreSitesOf m c.n c.sites) (sym (length_more c.names name)) (named_more (length c.names) c.n c.sites h.sites);
+  apart = h.apart;
+}
+
+-- ---- the atoms
+pub site_member : (m n : ℕ) (xs : List Site) (x : Site) → AreSitesOf m n xs → IsMember x xs → IsSiteOf m n x
+site_member m n [] x h k = absurd k
+site_member m n (y ∷ ys) x h (inl e) = subst (IsSiteOf m n) (sym e) h.0
+site_member m n (y ∷ ys) x h (inr k) = site_member m n ys x h.1 k
+
+pub none_member : (p : Triple) (xs : List Site) (x : Site) → NoneAt p xs → IsMember x xs → x.position ≡ p → ⊥
+none_member p [] x h k e = k
+none_member p (y ∷ ys) x h (inl f) e = h.0 (ap (λ (s : Site). s.position) (sym f) ∙ e)
+none_member p (y ∷ ys) x h (inr k) e = none_member p ys x h.1 k e
+
+told : (xs : List Site) (a b : Site) → AreApart xs → IsMember a xs → IsMember b xs → a.position ≡ b.position → a ≡ b
+told [] a b h j k e = absurd j
+told (x ∷ xs) a b h (inl f) (inl g) e = f ∙ sym g
+told (x ∷ xs) a b h (inl f) (inr k) e = absurd (none_member x.position xs b h.0 k (sym e ∙ ap (λ (s : Site). s.position) f))
+told (x ∷ xs) a b h (inr j) (inl g) e = absurd (none_member x.position xs a h.0 j (e ∙ ap (λ (s : Site). s.position) g))
+told (x ∷ xs) a b h (inr j) (inr k) e = told xs a b h.1 j k e
+
+distinct : (xs : List Site) → AreApart xs → IsDistinct xs
+distinct [] h = tt
+distinct (x ∷ xs) h = ((λ m. none_member x.position xs x h.0 m refl), distinct xs h.1)
+
+-- a cell's atoms are within it and apart
+pub apart_cell : (c : Structure) → IsCell c → IsApart c
+apart_cell c h = record {
+  within = λ a m. (site_member (length c.names) c.n c.sites a h.sites m).within;
+  told = λ a b j k e. told c.sites a b h.apart j k e;
+  distinct = distinct c.sites h.apart;
+}

@@ -1,0 +1,72 @@
+-- What the atom at a carried position says of the infinite crystal.
+use Rattle.std.proofs.Common.{◌≡◌, refl, sym, ap, subst, ◌∙◌, ◌⊎◌, inl, inr, ℕ, zero, suc, ◌+◌, List, [], ◌∷◌, drop, arith, add-one}
+use Rattle.std.specs.Prelude.{ℤ, pos, ◌*ℤ◌, ◌↔◌, slice_get, Some}
+use Rattle.crystal_spec.specs.Increasing.{IsMember}
+use Rattle.crystal_spec.specs.Matrices.{Matrix, Triple, multiple, sum_of}
+use Rattle.crystal_spec.specs.Crystals.{Site, Structure, Occupied, Keeps, KeepsMetric}
+use Rattle.crystal_spec.proofs.Images.{occupant_within, keeps_by_images, images_of_keeps}
+use Rattle.crystal.specs.Occupants.{IsOccupant, NoneAt}
+use Rattle.crystal.specs.Cells.{IsCell}
+use Rattle.crystal.specs.Carrying.{FoldsTo, HasImage, HaveImages}
+use Rattle.crystal.proofs.CellLemmas.{apart_cell, none_member}
+
+pub member_at : (xs : List Site) (i : ℕ) (x : Site) → slice_get xs i ≡ Some x → IsMember x xs
+member_at [] i x e = absurd (cc e)
+member_at (y ∷ ys) zero x e = let is : x ≡ y = cc e in inl is
+member_at (y ∷ ys) (suc i) x e = inr (member_at ys i x e)
+
+drop_suc : (xs : List Site) (i : ℕ) (x : Site) → slice_get xs i ≡ Some x → drop i xs ≡ x ∷ drop (suc i) xs
+drop_suc [] i x e = absurd (cc e)
+drop_suc (y ∷ ys) zero x e = let is : y ≡ x = cc e in ap (λ z. z ∷ ys) is
+drop_suc (y ∷ ys) (suc i) x e = drop_suc ys i x e
+
+pub drop_at : (xs : List Site) (i : ℕ) (x : Site) → slice_get xs i ≡ Some x → drop i xs ≡ x ∷ drop (i + 1) xs
+drop_at xs i x e = drop_suc xs i x e ∙ ap (λ (k : ℕ). x ∷ drop k xs) (sym (add-one i))
+
+-- where an atom of the cell is at the position within the cell, that atom decides
+pub occupied_at : {T : Type 0} (c : Structure) → IsCell c → (s : ℕ) (p m q : Triple) (i : ℕ) (b : Site) → FoldsTo c.n p q → IsOccupant c.sites q i → slice_get c.sites i ≡ Some b →
+    T ↔ ((b.species ≡ s) × (b.moment ≡ m)) → T ↔ Occupied c s p m
+occupied_at {T} c cell s p m q i b f o e test = (forth, back)
+  where
+    same : o.site ≡ b
+    same = let k : Some o.site ≡ Some b = sym o.numbered ∙ e in cc k
+
+    here : b.position ≡ q
+    here = ap (λ (a : Site). a.position) (sym same) ∙ o.here
+
+    forth : T → Occupied c s p m
+    forth t = record {
+      site = b;
+      of_cell = member_at c.sites i b e;
+      same_species = (test.0 t).0;
+      same_moment = (test.0 t).1;
+      cells = f.cells;
+      same_position = f.same ∙ ap (λ (v : Triple). sum_of v (multiple (pos c.n) f.cells)) (sym here);
+    }
+
+    back : Occupied c s p m → T
+    back k =
+        let at = occupant_within c (apart_cell c cell) s p q m f.cells f.within f.same k in
+        let one = (apart_cell c cell).told b k.site (member_at c.sites i b e) k.of_cell (here ∙ sym at) in
+        test.1 (ap (λ (a : Site). a.species) one ∙ k.same_species, ap (λ (a : Site). a.moment) one ∙ k.same_moment)
+
+-- where no atom is there, the position is not occupied
+pub unoccupied_at : (c : Structure) → IsCell c → (s : ℕ) (p m q : Triple) → FoldsTo c.n p q → NoneAt q c.sites → Occupied c s p m → ⊥
+unoccupied_at c cell s p m q f none k =
+    none_member q c.sites k.site none k.of_cell (occupant_within c (apart_cell c cell) s p q m f.cells f.within f.same k)
+
+pub image_member : (c : Structure) (w : Matrix) (t : Triple) (sign : ℤ) (xs : List Site) (a : Site) → HaveImages c w t sign xs → IsMember a xs → HasImage c w t sign a
+image_member c w t sign [] a h m = absurd m
+image_member c w t sign (x ∷ xs) a h (inl e) = subst (HasImage c w t sign) (sym e) h.0
+image_member c w t sign (x ∷ xs) a h (inr m) = image_member c w t sign xs a h.1 m
+
+all_images : (c : Structure) (w : Matrix) (t : Triple) (sign : ℤ) (xs : List Site) → ((a : Site) → IsMember a xs → HasImage c w t sign a) → HaveImages c w t sign xs
+all_images c w t sign [] h = tt
+all_images c w t sign (x ∷ xs) h = (h x (inl refl), all_images c w t sign xs (λ a m. h a (inr m)))
+
+-- a map keeps the crystal of a cell where it keeps the metric tensor and each atom has an image
+pub keeps_exactly : {T : Type 0} (c : Structure) (w : Matrix) (t : Triple) (sign : ℤ) → IsCell c → sign *ℤ sign ≡ pos 1 → KeepsMetric c.metric w → T ↔ HaveImages c w t sign c.sites → T ↔ Keeps c w t sign
+keeps_exactly c w t sign cell s k test = (
+  (λ h. keeps_by_images c w t sign (apart_cell c cell) cell.positive s k (λ a m. image_member c w t sign c.sites a (test.0 h) m)),
+  (λ h. test.1 (all_images c w t sign c.sites (images_of_keeps c w t sign h))),
+)
