@@ -13,6 +13,8 @@ mod name;
 mod occupant;
 mod places;
 mod steps;
+#[cfg(test)]
+mod tests;
 
 pub use atom::Atom;
 pub use cell::Cell;
