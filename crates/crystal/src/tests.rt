@@ -95,8 +95,8 @@ fn put(cell: &mut Cell, atom: Atom) -> Result<(), Fail>
     Ok(cell.add(atom)?)
 }
 
-/// A cell with an atom of species 0 and moment 1 along c at the origin, and this further atom, where there is one.
-fn cell_of(alloc: Global, n: u32, second: Option<(u16, [u32; 3], i8)>) -> Result<Cell, Fail>
+/// A cell with the species Mn and O, and an atom Mn with moment 1 along c at the origin.
+fn one_atom(alloc: Global, n: u32) -> Result<Cell, Fail>
     requires at_least { 1 ≤ n }
     requires at_most { n ≤ 10 ^ 6 }
 {
@@ -105,9 +105,22 @@ fn cell_of(alloc: Global, n: u32, second: Option<(u16, [u32; 3], i8)>) -> Result
     let first = atom(0, [0, 0, 0], 1);
     let mut cell = Cell::build(alloc, whole(1), axes(), n, 1, manganese, first)?;
     cell.add_name(oxygen)?;
-    if let Some((species, place, moment)) = second {
-        put(&mut cell, atom(species, place, moment))?;
-    }
+    Ok(cell)
+}
+
+/// The same with a further atom.
+fn two_atoms(
+    alloc: Global,
+    n: u32,
+    species: u16,
+    place: [u32; 3],
+    moment: i8,
+) -> Result<Cell, Fail>
+    requires at_least { 1 ≤ n }
+    requires at_most { n ≤ 10 ^ 6 }
+{
+    let mut cell = one_atom(alloc, n)?;
+    put(&mut cell, atom(species, place, moment))?;
     Ok(cell)
 }
 
@@ -136,11 +149,11 @@ fn keeps<L: Ledger>(
 
 #[test]
 fn maps_keep_the_crystal_or_not(rt: HostRuntime) -> Result<(), Fail> {
-    let one = cell_of(rt.alloc(), 1, None)?;
-    let centred = cell_of(rt.alloc(), 2, Some((0, [1, 1, 1], 1)))?;
-    let mixed = cell_of(rt.alloc(), 2, Some((1, [1, 1, 1], 1)))?;
-    let opposed = cell_of(rt.alloc(), 2, Some((0, [0, 0, 1], -1)))?;
-    let unequal = cell_of(rt.alloc(), 2, Some((0, [0, 0, 1], -2)))?;
+    let one = one_atom(rt.alloc(), 1)?;
+    let centred = two_atoms(rt.alloc(), 2, 0, [1, 1, 1], 1)?;
+    let mixed = two_atoms(rt.alloc(), 2, 1, [1, 1, 1], 1)?;
+    let opposed = two_atoms(rt.alloc(), 2, 0, [0, 0, 1], -1)?;
+    let unequal = two_atoms(rt.alloc(), 2, 0, [0, 0, 1], -2)?;
     for (i, (cell, rows, shift, sign, kept)) in [
         (&one, IDENTITY, [0, 0, 0], Sign::Same, true),
         (&one, IDENTITY, [0, 0, 0], Sign::Reversed, false),
@@ -170,7 +183,7 @@ fn maps_keep_the_crystal_or_not(rt: HostRuntime) -> Result<(), Fail> {
 
 #[test]
 fn a_cell_is_read_back(rt: HostRuntime) -> Result<(), Fail> {
-    let cell = cell_of(rt.alloc(), 4, Some((1, [1, 2, 3], -5)))?;
+    let cell = two_atoms(rt.alloc(), 4, 1, [1, 2, 3], -5)?;
     assert_eq!(rt; cell.scale().get(), 1);
     assert_eq!(rt; *cell.metric(), axes());
     assert_eq!(rt; (cell.n(), cell.k()), (4, 1));

@@ -82,9 +82,9 @@ none = at (pos 0) (pos 0) (pos 0)
 
 -- entries before translation parts before signs, and +1 before -1
 order : (compare_of (operation inversion none Reversed) (operation identity none Same) ≡ Less)
-  × (compare_of (operation identity (at (pos 0) (pos 0) (pos 1)) Same) (operation identity none Reversed) ≡ Greater)
-  × (compare_of (operation identity none Same) (operation identity none Reversed) ≡ Less)
-  × (compare_of (operation identity none Same) (operation identity none Same) ≡ Equal)
+    × (compare_of (operation identity (at (pos 0) (pos 0) (pos 1)) Same) (operation identity none Reversed) ≡ Greater)
+    × (compare_of (operation identity none Same) (operation identity none Reversed) ≡ Less)
+    × (compare_of (operation identity none Same) (operation identity none Same) ≡ Equal)
 unfolding compare_of
 order = (refl, refl, refl, refl)
 
