@@ -1,6 +1,6 @@
 -- In a cell whose atoms are within it and apart, an isometry that carries each atom to an occupied position, with its
 -- species and carried moment, keeps the crystal: it is one-to-one on the finitely many atoms, so it reaches each of them.
-use Rattle.std.proofs.Common.{◌≡◌, refl, sym, ap, subst, ◌∙◌, ◌⊎◌, inl, inr, ℕ, zero, suc, ◌+◌, ◌*◌, ◌≤◌, List, [], ◌∷◌, ◌++◌, length, arith}
+use Rattle.std.proofs.Common.{◌≡◌, refl, sym, ap, subst, ◌∙◌, ℕ, zero, suc, ◌*◌, ◌≤◌, [], ◌∷◌, ◌++◌, arith}
 use Rattle.std.specs.Prelude.{ℤ, pos, negsuc, ◌+ℤ◌, ◌*ℤ◌, ◌≤ℤ◌, ◌<ℤ◌}
 use Rattle.std.proofs.lemmas.Int.{ints}
 use Rattle.std.proofs.Math.Nat.{mul-le-mul_left}
@@ -14,8 +14,8 @@ use Rattle.crystal_spec.specs.Operations.{IsWithinCell}
 use Rattle.crystal_spec.proofs.Entrywise.{triple_same}
 use Rattle.crystal_spec.proofs.Identities.{by_triples}
 use Rattle.crystal_spec.proofs.Isometries.{determinant-isometry}
-use Rattle.crystal_spec.proofs.Counting.{Into, covered}
-use Rattle.crystal_spec.proofs.Keeping.{HasImages, ComesFrom, HasPreimages, same_cells, keeps_both_ways}
+use Rattle.crystal_spec.proofs.Counting.{covered}
+use Rattle.crystal_spec.proofs.Keeping.{HasImages, HasPreimages, same_cells, keeps_both_ways}
 
 -- the atoms are within one cell, and no two are at one position
 pub record IsApart (c : Structure) : Type 0 where

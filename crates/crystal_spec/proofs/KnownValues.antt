@@ -1,14 +1,13 @@
 -- The definitions at a few values: axial moments, positions, isometries, occupied positions, the order of operations.
-use Rattle.std.proofs.Common.{◌≡◌, ℕ, refl, inl, [], ◌∷◌, arith}
+use Rattle.std.proofs.Common.{◌≡◌, refl, inl, [], ◌∷◌, arith}
 use Rattle.std.specs.Prelude.{ℤ, pos, negsuc}
-use Rattle.std.specs.declared.cmp.Ordering.{Ordering}
 use Rattle.std.specs.declared.cmp.Ordering.TheVariants.{Less, Equal, Greater}
 use Rattle.std.proofs.lemmas.Int.{ints}
 use Rattle.crystal_spec.specs.declared.Sign.{Sign}
 use Rattle.crystal_spec.specs.declared.Sign.TheVariants.{Same, Reversed}
 use Rattle.crystal_spec.specs.Increasing.{inserted}
 use Rattle.crystal_spec.specs.Matrices.{Triple, Matrix, determinant, identity}
-use Rattle.crystal_spec.specs.Crystals.{Site, Structure, IsPositive, Occupied, KeepsMetric, position_after, moment_after}
+use Rattle.crystal_spec.specs.Crystals.{Structure, IsPositive, Occupied, KeepsMetric, position_after, moment_after}
 use Rattle.crystal_spec.specs.Operations.{Operation, compare_of, sign_factor}
 
 abbrev at : ℤ → ℤ → ℤ → Triple

@@ -1,5 +1,5 @@
 -- Strictly increasing lists: what putting an element in does, and that their members tell them; the order of operations.
-use Rattle.std.proofs.Common.{◌≡◌, refl, sym, ap, subst, ◌∙◌, ◌⊎◌, inl, inr, List, [], ◌∷◌, ℤ, pos, negsuc}
+use Rattle.std.proofs.Common.{◌≡◌, refl, sym, ap, subst, ◌∙◌, ◌⊎◌, inl, inr, List, [], ◌∷◌, ℤ, pos}
 use Rattle.std.specs.Prelude.{◌↔◌}
 use Rattle.std.specs.declared.cmp.Ordering.{Ordering}
 use Rattle.std.specs.declared.cmp.Ordering.TheVariants.{Less, Equal, Greater}
@@ -11,8 +11,7 @@ use Rattle.std.proofs.lemmas.Map.Lookups.{CmpEqualImpliesEq, exact_signed}
 use Rattle.crystal_spec.specs.declared.Sign.{Sign}
 use Rattle.crystal_spec.specs.declared.Sign.TheVariants.{Same, Reversed}
 use Rattle.crystal_spec.specs.Increasing.{IsBelowAll, IsIncreasing, IsMember, inserted}
-use Rattle.crystal_spec.specs.Operations.{Operation, order_key, compare_of, sign_rank}
-use Rattle.crystal_spec.specs.Matrices.{Triple, Matrix}
+use Rattle.crystal_spec.specs.Operations.{order_key, compare_of, sign_rank}
 use Rattle.crystal_spec.proofs.Entrywise.{triple_same, matrix_same}
 
 -- what is above x is below what x is below

@@ -7,7 +7,7 @@
 --   position_after w t p  where the map of matrix w and translation t takes the position p
 --   moment_after w s m    the moment that the map of matrix w and time sign s makes of m, as an axial vector
 --   Keeps c w t s         the map keeps the metric and carries the infinite crystal onto itself
-use Rattle.std.specs.Prelude.{◌≡◌, ◌↔◌, ℕ, ℤ, pos, ◌+ℤ◌, ◌-ℤ◌, ◌*ℤ◌, ◌<ℤ◌, List}
+use Rattle.std.specs.Prelude.{◌≡◌, ◌↔◌, ℕ, ℤ, pos, ◌-ℤ◌, ◌*ℤ◌, ◌<ℤ◌, List}
 use Rattle.crystal_spec.specs.Increasing.{IsMember}
 use Rattle.crystal_spec.specs.Matrices.{Triple, Matrix, product, image, transposed, determinant, multiple, sum_of}
 
