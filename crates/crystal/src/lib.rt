@@ -11,6 +11,7 @@ mod mapping;
 mod metric;
 mod name;
 mod occupant;
+mod place_index;
 mod places;
 mod steps;
 #[cfg(test)]

@@ -13,10 +13,15 @@ use std::sync::ledger::{Blank, Ledger};
 use std::test::Fail;
 
 const IDENTITY: [[i8; 3]; 3] = [[1, 0, 0], [0, 1, 0], [0, 0, 1]];
+
 const INVERSION: [[i8; 3]; 3] = [[-1, 0, 0], [0, -1, 0], [0, 0, -1]];
+
 const QUARTER_TURN_ABOUT_C: [[i8; 3]; 3] = [[0, -1, 0], [1, 0, 0], [0, 0, 1]];
+
 const HALF_TURN_ABOUT_A: [[i8; 3]; 3] = [[1, 0, 0], [0, -1, 0], [0, 0, -1]];
+
 const MIRROR_ACROSS_C: [[i8; 3]; 3] = [[1, 0, 0], [0, 1, 0], [0, 0, -1]];
+
 const SHEAR: [[i8; 3]; 3] = [[1, 1, 0], [0, 1, 0], [0, 0, 1]];
 
 fn whole(value: i8) -> Int
@@ -78,7 +83,7 @@ fn axes() -> Metric
 }
 
 /// Adds an atom of a species that has a name, at a free position within the cell.
-fn put(cell: &mut Cell, atom: Atom) -> Result<(), Fail>
+fn put(alloc: Global, cell: &mut Cell, atom: Atom) -> Result<(), Fail>
     requires { CoordinatesAtMost (2 * 10 ^ 27) atom.moment }
 {
     let n = cell.n();
@@ -89,7 +94,8 @@ fn put(cell: &mut Cell, atom: Atom) -> Result<(), Fail>
     if atom.species as usize >= cell.names() || cell.count() >= 512 {
         return Err(Fail::new("the species has no name, or the cell is full"));
     }
-    if cell.occupant(atom.place).is_some() {
+    let index = cell.index(alloc)?;
+    if cell.occupant(&index, atom.place).is_some() {
         return Err(Fail::new("an atom is there"));
     }
     Ok(cell.add(atom)?)
@@ -109,18 +115,12 @@ fn one_atom(alloc: Global, n: u32) -> Result<Cell, Fail>
 }
 
 /// The same with a further atom.
-fn two_atoms(
-    alloc: Global,
-    n: u32,
-    species: u16,
-    place: [u32; 3],
-    moment: i8,
-) -> Result<Cell, Fail>
+fn two_atoms(alloc: Global, n: u32, species: u16, place: [u32; 3], moment: i8) -> Result<Cell, Fail>
     requires at_least { 1 ≤ n }
     requires at_most { n ≤ 10 ^ 6 }
 {
     let mut cell = one_atom(alloc, n)?;
-    put(&mut cell, atom(species, place, moment))?;
+    put(alloc, &mut cell, atom(species, place, moment))?;
     Ok(cell)
 }
 
@@ -190,7 +190,10 @@ fn a_cell_is_read_back(rt: HostRuntime) -> Result<(), Fail> {
     assert_eq!(rt; (cell.names(), cell.count()), (2, 2));
     assert!(rt; cell.names() > 1 && cell.count() > 1);
     let second = cell.atom(1);
-    assert_eq!(rt; (second.species, second.place, second.moment.z.get()), (1, [1, 2, 3], -5));
+    assert_eq!(rt;
+        (second.species, second.place, second.moment.z.get()),
+        (1, [1, 2, 3], -5)
+    );
     let oxygen = cell.name(1);
     assert_eq!(rt; oxygen.count(), 1);
     assert!(rt; oxygen.count() > 0);
