@@ -198,6 +198,9 @@ fn a_cell_is_read_back(rt: HostRuntime) -> Result<(), Fail> {
     assert_eq!(rt; oxygen.count(), 1);
     assert!(rt; oxygen.count() > 0);
     assert_eq!(rt; oxygen.byte(0), b'O');
+    let index = cell.index(rt.alloc())?;
+    assert_eq!(rt; index.proposal([0, 0, 0]), Some(0));
+    assert_eq!(rt; index.proposal([1, 2, 3]), Some(1));
     let places = Places::new(rt.alloc(), &cell)?;
     let same = places.cell();
     assert!(rt; same.n() == 4);
