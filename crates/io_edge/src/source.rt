@@ -57,18 +57,18 @@ const CHUNK: usize = 4096;
 /// All bytes up to the end of input, of which there may be `limit`.
 ///
 /// It takes no more than `limit + 1` bytes. What a refusal took is lost.
-pub fn read_to_end<S: Source>(alloc: Global, source: &mut S, limit: usize) -> Result<Bytes, InFault>
+pub fn read_to_end<S: Source>(alloc: Global, src: &mut S, limit: usize) -> Result<Bytes, InFault>
     requires { limit + 1 < 2 ^ 64 }
-    ensures taken { ReadsAll limit (S.left source.old) (S.left source.new)
-        (S.faults source.old) (S.faults source.new) (S.end_is_seen source.new) result }
-    ensures later { S.faults source.old ≤ S.faults source.new }
+    ensures taken { ReadsAll limit (S.left src.old) (S.left src.new)
+        (S.faults src.old) (S.faults src.new) (S.end_is_seen src.new) result }
+    ensures later { S.faults src.old ≤ S.faults src.new }
 {
     let mut bytes = Bytes::new(alloc);
     let mut buf = [0u8; CHUNK];
     loop {
         let room = limit + 1 - bytes.as_slice().len();
         let most = room.min(buf.len());
-        let Ok(count) = source.read(&mut buf[..most]) else {
+        let Ok(count) = src.read(&mut buf[..most]) else {
             return Err(InFault::ReadFault);
         };
         if count == 0 {

@@ -2,3 +2,4 @@ pub mod Commands
 pub mod Statuses
 pub mod Telling
 pub mod Outcomes
+pub mod Completeness

@@ -4,6 +4,7 @@ ghost use Rattle.mag_ops.specs.RightAngled.{IsRightAngled};
 ghost use Rattle.magsym.specs.Statuses.{line_of};
 ghost use Rattle.magsym.specs.Telling.{Tells};
 ghost use Rattle.magsym.specs.Outcomes.{Outcome, SymmetryReport, IsRefusal, IsUsage};
+ghost use Rattle.magsym.specs.Completeness.{IsAnswerable, IsDoneOrMemory};
 
 use crate::command::{Command, read_words};
 use crate::status::{Kept, Status};
@@ -87,6 +88,7 @@ pub fn run<I: Source, O: Sink, E: Sink, L: Ledger>(
     steps: &mut Steps<L>,
 ) -> Status
     ensures outcome { Outcome words.now (record { left = I.left input.old; left_after = I.left input.new; in_faults = I.faults input.old; in_faults_after = I.faults input.new; end_is_seen = I.end_is_seen input.new; held = O.held out.old; held_after = O.held out.new; out_faults = O.faults out.old; out_faults_after = O.faults out.new }) result }
+    ensures complete { IsAnswerable words.now (record { left = I.left input.old; left_after = I.left input.new; in_faults = I.faults input.old; in_faults_after = I.faults input.new; end_is_seen = I.end_is_seen input.new; held = O.held out.old; held_after = O.held out.new; out_faults = O.faults out.old; out_faults_after = O.faults out.new }) → IsDoneOrMemory result }
     ensures told { Tells (E.held err.old) (E.held err.new) (E.faults err.old) (E.faults err.new) (line_of result) }
     ensures input_untouched { IsUsage result → input.new ≡ input.old }
     ensures out_untouched { IsRefusal result → out.new ≡ out.old }

@@ -1,0 +1,48 @@
+-- What each status says leaves only the whole report, or want of memory, where nothing stands in the way of a report.
+use Rattle.std.proofs.Common.{◌≡◌, sym, ap, subst, ◌∙◌, ℕ, ◌+◌, ◌≤◌, List, ◌++◌, length, Some, None, append-nil, arith}
+use Rattle.std.proofs.lemmas.List.{length-append}
+use Rattle.std.specs.declared.option.Option.{Option}
+use Rattle.std.specs.declared.result.Result.TheVariants.{Ok, Err}
+use Rattle.std.specs.Io.KnownBytes.{Consumes, IsAtEnd}
+use Rattle.cell_text.specs.SimpleForm.{SpellsSimple}
+use Rattle.magsym.specs.declared.command.Command.TheVariants.{Symmetry}
+use Rattle.magsym.specs.declared.status.Kept.TheVariants.{NoBase}
+use Rattle.magsym.specs.declared.status.Status.{Status}
+use Rattle.magsym.specs.declared.status.Status.TheVariants.{Done, Usage, CellTooLong, NotSimple, NotRightAngled, ReadFault, WriteFault, Memory}
+use Rattle.magsym.specs.Commands.{command}
+use Rattle.magsym.specs.Outcomes.{Streams, Outcome}
+use Rattle.magsym.specs.Completeness.{IsAnswerable, IsDoneOrMemory}
+
+-- what was read to the end is all of a known text
+read_is_text : (left after : Option (List ℕ)) (text read : List ℕ) → left ≡ Some text → Consumes left after read → IsAtEnd after → text ≡ read
+read_is_text None after text read e p q = absurd cc
+read_is_text (Some xs) None text read e p q = absurd p
+read_is_text (Some xs) (Some ys) text read e p q =
+    let same : text ≡ xs = cc in same ∙ p ∙ ap (λ l. read ++ l) q ∙ append-nil read
+
+-- no more than all of a known text is taken
+taken_within : (left after : Option (List ℕ)) (text taken : List ℕ) → left ≡ Some text → Consumes left after taken → length taken ≤ length text
+taken_within None after text taken e p = absurd cc
+taken_within (Some xs) None text taken e p = absurd p
+taken_within (Some xs) (Some ys) text taken e p =
+    let same : text ≡ xs = cc in
+    let count : length text ≡ length taken + length ys = ap length (same ∙ p) ∙ length-append taken ys in omega (arith, count)
+
+-- by cases on the status
+pub complete_of_outcome : (ws : List (List ℕ)) (s : Streams) (status : Status) → Outcome ws s status → IsAnswerable ws s → IsDoneOrMemory status
+complete_of_outcome ws s (Done NoBase) o a = tt
+complete_of_outcome ws s Memory o a = tt
+complete_of_outcome ws s (Usage fault) o a =
+    let asked : command ws ≡ Ok Symmetry = a.asked in
+    let faulty : command ws ≡ Err fault = o in absurd cc
+complete_of_outcome ws s (WriteFault written NoBase) o a = absurd (a.output_works o.1.cause)
+complete_of_outcome ws s ReadFault o a = absurd (a.input_works o.1.cause)
+complete_of_outcome ws s NotSimple o a =
+    let same = read_is_text s.left s.left_after a.text o.1.text a.is_input o.1.read.taken o.1.read.none_left in
+    absurd (o.1.spells_none a.cell (subst (λ (t : List ℕ). SpellsSimple t a.cell) same a.spelled))
+complete_of_outcome ws s NotRightAngled o a =
+    let same = read_is_text s.left s.left_after a.text o.1.text a.is_input o.1.read.taken o.1.read.none_left in
+    absurd (o.1.oblique (a.right_angled o.1.cell (subst (λ (t : List ℕ). SpellsSimple t o.1.cell) (sym same) o.1.spelled)))
+complete_of_outcome ws s CellTooLong o a =
+    let within = taken_within s.left s.left_after a.text o.1.taken a.is_input o.1.consumed in
+    absurd (omega (arith, within, o.1.count, a.short))

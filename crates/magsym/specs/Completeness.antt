@@ -1,0 +1,38 @@
+-- When a run has to write the whole report.
+--   IsAnswerable ws s      the words ask for `symmetry`, the input spells right-angled cells alone, and no device fails
+--   IsDoneOrMemory status  the whole report is written, or memory was wanting
+use Rattle.std.specs.Prelude.{◌≡◌, ◌≤◌, ℕ, List, length, Some}
+use Rattle.std.specs.declared.result.Result.TheVariants.{Ok}
+use Rattle.io_edge.specs.Causes.{Rose}
+use Rattle.crystal_spec.specs.Crystals.{Structure}
+use Rattle.cell_text.specs.SimpleForm.{SpellsSimple}
+use Rattle.mag_ops.specs.RightAngled.{IsRightAngled}
+use Rattle.magsym.specs.declared.command.Command.TheVariants.{Symmetry}
+use Rattle.magsym.specs.declared.status.Status.{Status}
+use Rattle.magsym.specs.declared.status.Status.TheVariants.{Done, Usage, CellTooLong, NotSimple, NotRightAngled, ReadFault, WriteFault, Memory}
+use Rattle.magsym.specs.Commands.{command}
+use Rattle.magsym.specs.Outcomes.{Streams}
+
+-- The words ask for `symmetry`; the input tells its bytes, which are at most 262,144 and spell a cell; each cell that they
+-- spell is right-angled; and neither the input nor the output failed.
+pub record IsAnswerable (ws : List (List ℕ)) (s : Streams) : Type 0 where
+  pub asked : command ws ≡ Ok Symmetry
+  pub text : List ℕ
+  pub is_input : s.left ≡ Some text
+  pub short : length text ≤ 262144
+  pub cell : Structure
+  pub spelled : SpellsSimple text cell
+  pub right_angled : (c : Structure) → SpellsSimple text c → IsRightAngled c.metric
+  pub input_works : Rose s.in_faults s.in_faults_after → ⊥
+  pub output_works : Rose s.out_faults s.out_faults_after → ⊥
+
+-- the whole report is written, or memory was wanting
+abbrev pub IsDoneOrMemory : Status → Type 0
+IsDoneOrMemory (Done kept) = Unit {0}
+IsDoneOrMemory Memory = Unit {0}
+IsDoneOrMemory (Usage fault) = ⊥
+IsDoneOrMemory (WriteFault written kept) = ⊥
+IsDoneOrMemory NotSimple = ⊥
+IsDoneOrMemory NotRightAngled = ⊥
+IsDoneOrMemory CellTooLong = ⊥
+IsDoneOrMemory ReadFault = ⊥
