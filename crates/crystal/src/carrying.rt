@@ -8,6 +8,7 @@ ghost use Rattle.crystal.specs.Carrying.{HasImage, HaveImages};
 use crate::atom::Atom;
 use crate::cell::Cell;
 use crate::mapping::{carried_moment, carried_place};
+use crate::place_index::PlaceIndex;
 use crystal_spec::Sign;
 use exact_num::Int;
 use matrix3::{Mat3, Vec3};
@@ -21,7 +22,14 @@ fn is_of(atom: &Atom, species: u16, moment: &Vec3<Int>) -> bool
 
 /// Whether an isometry with this translation and time sign carries an atom of the cell to an atom of its species with the
 /// carried moment.
-fn has_image(cell: &Cell, w: &Mat3<Int>, shift: [u32; 3], sign: Sign, atom: &Atom) -> bool
+fn has_image(
+    cell: &Cell,
+    index: &PlaceIndex,
+    w: &Mat3<Int>,
+    shift: [u32; 3],
+    sign: Sign,
+    atom: &Atom,
+) -> bool
     requires map { EntriesAtMost 150000000 w.now }
     requires isometry { determinant w.now *ℤ determinant w.now ≡ pos 1 }
     requires moment { CoordinatesAtMost (2 * 10 ^ 27) atom.now.moment }
@@ -30,20 +38,26 @@ fn has_image(cell: &Cell, w: &Mat3<Int>, shift: [u32; 3], sign: Sign, atom: &Ato
     let _form = cell.count();
     let place = carried_place(w, shift, atom.place, cell.n());
     let moment = carried_moment(w, sign, &atom.moment);
-    match cell.occupant(place) {
+    match cell.occupant(index, place) {
         Some(i) => is_of(cell.atom(i), atom.species, &moment),
         None => false,
     }
 }
 
 /// Whether it does so for each atom of the cell. Ends at the first atom for which it doesn't.
-pub(crate) fn have_images(cell: &Cell, w: &Mat3<Int>, shift: [u32; 3], sign: Sign) -> bool
+pub(crate) fn have_images(
+    cell: &Cell,
+    index: &PlaceIndex,
+    w: &Mat3<Int>,
+    shift: [u32; 3],
+    sign: Sign,
+) -> bool
     requires map { EntriesAtMost 150000000 w.now }
     requires isometry { determinant w.now *ℤ determinant w.now ≡ pos 1 }
     ensures { IsTrue result ↔ HaveImages cell.now w.now (triple_of shift) (sign_factor sign) cell.now.sites }
 {
     for i in 0..cell.count() {
-        if !has_image(cell, w, shift, sign, cell.atom(i)) {
+        if !has_image(cell, index, w, shift, sign, cell.atom(i)) {
             return false;
         }
     }

@@ -11,6 +11,7 @@ use crate::atom::Atom;
 use crate::metric::Metric;
 use crate::name::Name;
 use crate::occupant::find_occupant;
+use crate::place_index::PlaceIndex;
 use exact_num::Int;
 use std::alloc::{AllocError, Global};
 use std::marker::Model;
@@ -182,12 +183,17 @@ impl Cell {
     }
 
     /// The number of the atom at a position, or `None` where no atom is there.
-    pub(crate) fn occupant(&self, place: [u32; 3]) -> Option<usize>
+    pub(crate) fn occupant(&self, index: &PlaceIndex, place: [u32; 3]) -> Option<usize>
         ensures found { IfSome result (IsOccupant self.now.sites (triple_of place)) }
         ensures below { IfSome result (λ i. i < length self.now.sites) }
         ensures absent { IfNone result (NoneAt (triple_of place) self.now.sites) }
     {
-        find_occupant(&self.atoms, place)
+        find_occupant(&self.atoms, index, place)
+    }
+
+    /// An index of the positions of its atoms.
+    pub(crate) fn index(&self, alloc: Global) -> Result<PlaceIndex, AllocError> {
+        PlaceIndex::new(alloc, &self.atoms)
     }
 
     /// The same cell again.

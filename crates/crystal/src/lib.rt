@@ -11,8 +11,11 @@ mod mapping;
 mod metric;
 mod name;
 mod occupant;
+mod place_index;
 mod places;
 mod steps;
+#[cfg(test)]
+mod tests;
 
 pub use atom::Atom;
 pub use cell::Cell;

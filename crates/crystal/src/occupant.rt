@@ -3,6 +3,7 @@ ghost use Rattle.crystal.specs.Views.{triple_of, site_of};
 ghost use Rattle.crystal.specs.Occupants.{IsOccupant, NoneAt};
 
 use crate::atom::Atom;
+use crate::place_index::PlaceIndex;
 
 /// Whether the atom is at this position of the cell.
 fn is_at(atom: &Atom, place: [u32; 3]) -> bool
@@ -12,8 +13,8 @@ fn is_at(atom: &Atom, place: [u32; 3]) -> bool
     own == place
 }
 
-/// The number of the first atom at this position, or `None` where no atom is there.
-pub(crate) fn find_occupant(atoms: &[Atom], place: [u32; 3]) -> Option<usize>
+/// The number of the first atom at this position, or `None` where no atom is there. It looks at each atom in turn.
+fn first_occupant(atoms: &[Atom], place: [u32; 3]) -> Option<usize>
     ensures found { IfSome result (IsOccupant (map site_of atoms.now) (triple_of place)) }
     ensures below { IfSome result (λ i. i < length atoms.now) }
     ensures absent { IfNone result (NoneAt (triple_of place) (map site_of atoms.now)) }
@@ -24,4 +25,20 @@ pub(crate) fn find_occupant(atoms: &[Atom], place: [u32; 3]) -> Option<usize>
         }
     }
     None
+}
+
+/// The number of an atom at this position, or `None` where no atom is there.
+///
+/// Where the index proposes an atom that is there, no other is looked at.
+pub(crate) fn find_occupant(atoms: &[Atom], index: &PlaceIndex, place: [u32; 3]) -> Option<usize>
+    ensures found { IfSome result (IsOccupant (map site_of atoms.now) (triple_of place)) }
+    ensures below { IfSome result (λ i. i < length atoms.now) }
+    ensures absent { IfNone result (NoneAt (triple_of place) (map site_of atoms.now)) }
+{
+    if let Some(i) = index.proposal(place) {
+        if i < atoms.len() && is_at(&atoms[i], place) {
+            return Some(i);
+        }
+    }
+    first_occupant(atoms, place)
 }

@@ -7,6 +7,7 @@ ghost use Rattle.crystal.specs.Occupants.{IsOccupant, NoneAt};
 
 use crate::carrying::have_images;
 use crate::cell::Cell;
+use crate::place_index::PlaceIndex;
 use crate::steps::Steps;
 use crystal_spec::Sign;
 use exact_num::Int;
@@ -19,6 +20,7 @@ use std::sync::ledger::Ledger;
 #[derive(Drop)]
 pub struct Places {
     cell: Cell,
+    index: PlaceIndex,
 }
 
 impl Model for Places {
@@ -35,7 +37,8 @@ impl Places {
         ensures { IfOk result (λ places. places ≡ cell.now) }
     {
         let cell = cell.copied(alloc)?;
-        Ok(Places { cell })
+        let index = cell.index(alloc)?;
+        Ok(Places { cell, index })
     }
 
     /// The cell.
@@ -53,7 +56,7 @@ impl Places {
         ensures found { IfSome result (IsOccupant self.now.sites (triple_of place)) }
         ensures absent { IfNone result (NoneAt (triple_of place) self.now.sites) }
     {
-        self.cell.occupant(place)
+        self.cell.occupant(&self.index, place)
     }
 
     /// Whether the map of this matrix, translation and time sign keeps the crystal. It counts one step.
@@ -76,6 +79,6 @@ impl Places {
         steps.tick();
         let cell = &self.cell;
         let _form = cell.count();
-        cell.metric().is_kept_by(w) && have_images(cell, w, shift, sign)
+        cell.metric().is_kept_by(w) && have_images(cell, &self.index, w, shift, sign)
     }
 }

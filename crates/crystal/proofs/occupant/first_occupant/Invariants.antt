@@ -1,7 +1,7 @@
 use Rattle.std.proofs.Common.{drop, map}
 use Rattle.crystal.specs.Views.{triple_of, site_of}
 use Rattle.crystal.specs.Occupants.{NoneAt}
-use Rattle.crystal.proofs.occupant.find_occupant.Given as goal
+use Rattle.crystal.proofs.occupant.first_occupant.Given as goal
 
 -- where none of the rest is there, none is
 abbrev pub invariant-loop-i : goal.invariant-loop-i
