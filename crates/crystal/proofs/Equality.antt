@@ -1,6 +1,6 @@
 -- What `==` says of columns and matrices of integers: the two are one.
-use Rattle.std.proofs.Common.{◌≡◌, Bool, true, false, subst, sym, ap, ◌∙◌, ◌&&◌, refl}
-use Rattle.std.specs.Prelude.{IsTrue, ℤ, ◌↔◌}
+use Rattle.std.proofs.Common.{◌≡◌, Bool, ap, ◌&&◌}
+use Rattle.std.specs.Prelude.{IsTrue, ◌↔◌}
 use Rattle.std.specs.Bool.{Decides}
 use Rattle.std.specs.Ordering.{int_eq}
 use Rattle.std.proofs.lemmas.Bool.Decides.{Decides-int_eq, Decides-and, Decides-like, Decides-at}

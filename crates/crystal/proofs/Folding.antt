@@ -1,12 +1,11 @@
 -- Positions brought into the cell.
-use Rattle.std.proofs.Common.{◌≡◌, refl, sym, ap, ◌∙◌, subst, ℕ, ◌+◌, ◌*◌, ◌^◌, lit≤, [], ◌∷◌, arith}
+use Rattle.std.proofs.Common.{◌≡◌, refl, sym, ap, ◌∙◌, ℕ, [], ◌∷◌, arith}
 use Rattle.std.specs.Prelude.{ℤ, pos, neg_ℤ, ◌+ℤ◌, ◌*ℤ◌}
 use Rattle.std.specs.Prelude.{◌<◌, ◌<ℤ◌, ◌≤ℤ◌}
 use Rattle.std.proofs.lemmas.Int.{ints}
 use Rattle.std.proofs.Math.IntN.{+ℤ_comm}
-use Rattle.crystal_spec.specs.Matrices.{Triple, Matrix, image, multiple, sum_of, difference}
+use Rattle.crystal_spec.specs.Matrices.{Triple, Matrix, image, sum_of, difference}
 use Rattle.crystal_spec.specs.Crystals.{position_after}
-use Rattle.crystal_spec.specs.Operations.{IsWithinCell}
 use Rattle.crystal_spec.proofs.Entrywise.{triple_same}
 use Rattle.crystal.specs.Carrying.{FoldsTo}
 use Rattle.ring.specs.Ring.{var, ◌:+◌, ◌:*◌, opposite}

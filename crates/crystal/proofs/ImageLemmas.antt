@@ -1,5 +1,5 @@
 -- What the atom at a carried position says of the infinite crystal.
-use Rattle.std.proofs.Common.{◌≡◌, refl, sym, ap, subst, ◌∙◌, ◌⊎◌, inl, inr, ℕ, zero, suc, ◌+◌, List, [], ◌∷◌, drop, arith, add-one}
+use Rattle.std.proofs.Common.{◌≡◌, refl, sym, ap, subst, ◌∙◌, inl, inr, ℕ, zero, suc, ◌+◌, List, [], ◌∷◌, drop, add-one}
 use Rattle.std.specs.Prelude.{ℤ, pos, ◌*ℤ◌, ◌↔◌, slice_get, Some}
 use Rattle.crystal_spec.specs.Increasing.{IsMember}
 use Rattle.crystal_spec.specs.Matrices.{Matrix, Triple, multiple, sum_of}

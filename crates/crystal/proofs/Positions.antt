@@ -1,6 +1,6 @@
 -- Positions as lists of three numbers and as triples.
-use Rattle.std.proofs.Common.{◌≡◌, refl, ap, sym, ◌∙◌, subst, ℕ, List, [], ◌∷◌, length, arith, get_or, map}
-use Rattle.std.specs.Prelude.{pos, ◌↔◌, slice_index_or, slice_get, Some, ◌<◌, zero, suc}
+use Rattle.std.proofs.Common.{◌≡◌, ap, ℕ, List, [], ◌∷◌, length, arith, map}
+use Rattle.std.specs.Prelude.{pos, slice_index_or, slice_get, Some, ◌<◌, zero, suc}
 use Rattle.crystal_spec.specs.Matrices.{Triple}
 use Rattle.crystal.specs.Views.{triple_of}
 

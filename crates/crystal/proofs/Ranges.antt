@@ -3,7 +3,7 @@
 -- The largest numbers of the test of a map are the carried moments: entries of a map up to 1.5 · 10^8 and moments up to
 -- 2 · 10^27 give coordinates up to 9 · 10^35, below the 10^36 of an integer.
 use Rattle.std.proofs.Common.{ℕ, ◌+◌, ◌*◌, ◌≤◌, ◌^◌, arith}
-use Rattle.std.specs.Prelude.{ℤ, neg_ℤ, ◌*ℤ◌}
+use Rattle.std.specs.Prelude.{ℤ, neg_ℤ}
 use Rattle.ring.specs.Ring.{int_ops}
 use Rattle.ring.specs.Size.{AtMost}
 use Rattle.ring.proofs.Sizes.{at_most_mul, at_most_add, at_most_neg}

@@ -1,7 +1,7 @@
 -- The cells that the code holds.
 --   IsCell c   c is a cell: a positive metric tensor, units within bounds, names that differ, and 1 to 512 atoms within the
 --              cell, of named species, no two at one position
-use Rattle.std.specs.Prelude.{◌≡◌, ℕ, pos, ◌*◌, ◌^◌, ◌<◌, ◌≤◌, ◌≤ℤ◌, List, [], ◌∷◌, map, length, slice_get, Some}
+use Rattle.std.specs.Prelude.{◌≡◌, ℕ, pos, ◌*◌, ◌^◌, ◌<◌, ◌≤◌, ◌≤ℤ◌, List, [], ◌∷◌, length, slice_get, Some}
 use Rattle.crystal_spec.specs.Increasing.{IsDistinct}
 use Rattle.crystal_spec.specs.Matrices.{Matrix}
 use Rattle.crystal_spec.specs.Crystals.{Site, Structure, IsPositive}

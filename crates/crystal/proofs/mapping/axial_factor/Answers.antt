@@ -1,6 +1,5 @@
-use Rattle.std.proofs.Common.{lit≤, ap, sym, ◌∙◌, ◌≡◌, subst}
-use Rattle.std.specs.Prelude.{ℤ, pos, ◌*ℤ◌}
-use Rattle.std.proofs.lemmas.Int.{ints}
+use Rattle.std.proofs.Common.{lit≤, ap, sym, ◌∙◌}
+use Rattle.std.specs.Prelude.{◌*ℤ◌}
 use Rattle.crystal_spec.specs.declared.Sign.{Sign}
 use Rattle.crystal_spec.specs.Matrices.{determinant}
 use Rattle.crystal_spec.specs.Operations.{sign_factor}

@@ -1,10 +1,7 @@
-use Rattle.std.proofs.Common.{◌≡◌, sym, ap, ◌∙◌, subst, lit≤, ◌*◌, ◌+◌, ◌^◌}
-use Rattle.std.specs.Prelude.{ℤ, pos, ◌+ℤ◌}
-use Rattle.crystal_spec.specs.Matrices.{Triple, image, sum_of}
-use Rattle.crystal_spec.specs.Crystals.{position_after}
+use Rattle.std.proofs.Common.{sym, ap, ◌∙◌, subst, lit≤, ◌*◌, ◌+◌, ◌^◌}
+use Rattle.crystal_spec.specs.Matrices.{image}
 use Rattle.crystal.specs.Views.{triple_of}
 use Rattle.crystal.specs.Bounds.{CoordinatesAtMost}
-use Rattle.crystal.specs.Carrying.{FoldsTo}
 use Rattle.crystal.proofs.Ranges.{image_fits, at_most_image, coordinates_grown}
 use Rattle.crystal.proofs.Folding.{folds_to}
 use Rattle.crystal.proofs.mapping.carried_place.Goals as goal

@@ -1,7 +1,7 @@
-use Rattle.std.proofs.Common.{◌≡◌, ◌^◌, sym, ap, subst, ◌∙◌, to_z-of_z}
+use Rattle.std.proofs.Common.{◌^◌, sym, ap, subst, ◌∙◌, to_z-of_z}
 use Rattle.ring.specs.Size.{AtMost}
 use Rattle.ring.proofs.Sizes.{fits}
-use Rattle.std.specs.Prelude.{ℤ, pos, neg_ℤ, ◌+ℤ◌, ◌*ℤ◌}
+use Rattle.std.specs.Prelude.{ℤ, pos, neg_ℤ, ◌+ℤ◌}
 use Rattle.numbers.proofs.ResidueRing.{residue_splits}
 use Rattle.numbers.specs.Residue.{residue}
 use Rattle.crystal.proofs.Folding.{taken_over}

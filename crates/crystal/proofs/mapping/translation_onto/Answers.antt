@@ -1,12 +1,10 @@
-use Rattle.std.proofs.Common.{◌≡◌, sym, ap, ◌∙◌, subst, lit≤, ◌*◌, ◌+◌, ◌^◌}
+use Rattle.std.proofs.Common.{sym, ap, ◌∙◌, subst, lit≤, ◌*◌, ◌+◌, ◌^◌}
 use Rattle.std.specs.Prelude.{ℤ}
 use Rattle.ring.specs.Size.{AtMost}
 use Rattle.ring.proofs.Sizes.{at_most_neg}
-use Rattle.crystal_spec.specs.Matrices.{Triple, image, sum_of}
-use Rattle.crystal_spec.specs.Crystals.{position_after}
+use Rattle.crystal_spec.specs.Matrices.{image}
 use Rattle.crystal.specs.Views.{triple_of}
 use Rattle.crystal.specs.Bounds.{CoordinatesAtMost}
-use Rattle.crystal.specs.Carrying.{FoldsTo}
 use Rattle.crystal.proofs.Ranges.{image_fits, at_most_image, coordinates_grown}
 use Rattle.crystal.proofs.Folding.{folds_onto}
 use Rattle.crystal.proofs.mapping.translation_onto.Goals as goal

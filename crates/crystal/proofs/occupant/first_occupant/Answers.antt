@@ -1,5 +1,4 @@
-use Rattle.std.proofs.Common.{sym, arith, ◌≡◌}
-use Rattle.std.specs.Prelude.{IsTrue}
+use Rattle.std.proofs.Common.{sym, arith}
 use Rattle.crystal.specs.Views.{site_of}
 use Rattle.crystal.proofs.Positions.{slice_get-map}
 use Rattle.crystal.proofs.occupant.first_occupant.Goals as goal

@@ -1,6 +1,6 @@
-use Rattle.std.proofs.Common.{◌<◌, subst, sym, ap, ◌∙◌, map, length}
+use Rattle.std.proofs.Common.{◌<◌, subst, sym, length}
 use Rattle.std.proofs.lemmas.List.{length-map}
-use Rattle.crystal_spec.specs.Crystals.{Site, Structure}
+use Rattle.crystal_spec.specs.Crystals.{Structure}
 use Rattle.crystal.specs.Views.{site_of}
 use Rattle.crystal.specs.Cells.{IsSiteOf}
 use Rattle.crystal.specs.CellFields.{structure_of}
