@@ -2,8 +2,8 @@
 --
 -- A symmetry operation of matrix w carries the first atom onto an atom of its species, so its translation part is the one
 -- that does so, for one of these atoms; and its matrix is an isometry, so it has a number.
-use Rattle.std.proofs.Common.{◌≡◌, refl, sym, ap, subst, ◌∙◌, ◌⊎◌, inl, inr, ℕ, zero, suc, ◌+◌, ◌<◌, ◌≤◌, List, [], ◌∷◌, ◌++◌, length, arith}
-use Rattle.std.specs.Prelude.{ℤ, pos, negsuc, ◌*ℤ◌, ◌↔◌, slice_get, Some}
+use Rattle.std.proofs.Common.{◌≡◌, refl, sym, ap, subst, ◌∙◌, ◌⊎◌, inl, inr, ℕ, zero, suc, ◌+◌, ◌<◌, List, [], ◌∷◌, ◌++◌, length, arith}
+use Rattle.std.specs.Prelude.{ℤ, pos, negsuc, ◌↔◌, slice_get, Some}
 use Rattle.ring.specs.Ring.{quoted, var, con}
 use Rattle.matrix3.specs.Matrices.{coordinates, vector_of_variables}
 use Rattle.matrix3.specs.Matrices as formulas
@@ -11,14 +11,12 @@ use Rattle.crystal_spec.specs.declared.Sign.{Sign}
 use Rattle.crystal_spec.specs.declared.Sign.TheVariants.{Same, Reversed}
 use Rattle.crystal_spec.specs.Increasing.{IsIncreasing, IsMember, inserted}
 use Rattle.crystal_spec.specs.Matrices.{Matrix, Triple, image, multiple, sum_of, difference}
-use Rattle.crystal_spec.specs.Crystals.{Site, Structure, Keeps, KeepsMetric, position_after, moment_after}
+use Rattle.crystal_spec.specs.Crystals.{Site, Structure, Keeps, KeepsMetric}
 use Rattle.crystal_spec.specs.Operations.{Operation, IsSymmetryOperation, ListsAll, compare_of, sign_factor}
 use Rattle.crystal_spec.proofs.Identities.{by_triples}
 use Rattle.crystal_spec.proofs.Images.{images_of_keeps, same_within}
-use Rattle.crystal_spec.proofs.Keeping.{two_cells}
 use Rattle.crystal_spec.proofs.Ordered.{IsMember-inserted, compare_exact}
 use Rattle.crystal.specs.Bounds.{EntriesAtMost}
-use Rattle.crystal.specs.Cells.{IsCell}
 use Rattle.crystal.specs.Carrying.{FoldsTo}
 use Rattle.crystal.proofs.ImageLemmas.{member_at}
 use Rattle.mag_ops.specs.Candidates.{candidate, IsKeptAs, IsOnto, IsFromAtoms, IsKeptBy, IsFoundBelow}

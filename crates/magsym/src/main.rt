@@ -17,7 +17,7 @@ use crate::run::run_counted;
 use crate::status::Status;
 use crate::words::Words;
 use io_edge::{Bytes, StdSink, StdSource};
-use std::alloc::{AllocError, Global};
+use std::alloc::AllocError;
 use std::marker::Brand;
 use std::process::ExitCode;
 use std::rt::Env;

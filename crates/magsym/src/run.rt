@@ -1,5 +1,4 @@
-ghost use Rattle.std.specs.Prelude.{◌≡◌, ◌<◌, ◌≤◌, IfOk, MatchResult, ℕ, List};
-ghost use Rattle.crystal_spec.specs.Crystals.{Structure};
+ghost use Rattle.std.specs.Prelude.{◌≡◌, ◌<◌, ◌≤◌, IfOk};
 ghost use Rattle.mag_ops.specs.RightAngled.{IsRightAngled};
 ghost use Rattle.magsym.specs.Statuses.{line_of};
 ghost use Rattle.magsym.specs.Telling.{Tells};
