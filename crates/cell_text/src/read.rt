@@ -1,63 +1,37 @@
-ghost use Rattle.std.specs.Prelude.{◌≡◌, ◌↔◌, IfOk, Err, IsTrue};
-ghost use Rattle.crystal_spec.specs.Crystals.{Structure};
-ghost use Rattle.cell_text.specs.Tests.{HasFrame};
-ghost use Rattle.cell_text.specs.SimpleForm.{SpellsSimple};
+ghost use Rattle.std.specs.Prelude.{◌≡◌, ◌<◌, ◌^◌, ◌+◌, length, MatchResult, None};
+ghost use Rattle.cell_text.specs.Text.{lines};
+ghost use Rattle.cell_text.specs.Entries.{contents};
+ghost use Rattle.cell_text.specs.Rules.{cell_fault};
+ghost use Rattle.cell_text.specs.Views.{Tells};
 
-use crate::atom_line::atom_of;
-use crate::error::CellError;
-use crate::metric_line::metric_of;
-use crate::number::integer;
-use crate::pieces::{Pieces, is_same};
-use crystal::{Atom, Cell};
-use io_edge::Bytes;
+use crate::fault::{CellError, CellFault, LineError};
+use crate::reader::Reader;
+use crate::text::first_line;
 use std::alloc::Global;
 
-/// Whether these are five pieces: `magcell 1`, two lines, `end` and nothing.
-fn has_frame(lines: &Pieces) -> bool
-    ensures { IsTrue result ↔ HasFrame lines.now }
+/// The lines of the text, unless one breaks a rule.
+pub(crate) fn read_lines(alloc: Global, text: &[u8]) -> Result<Reader, CellError>
+    requires { length text.now + 1 < 2 ^ 32 }
+    ensures { MatchResult result (λ r. (cell_fault text.now ≡ None) × (r.held ≡ contents (lines text.now))) (λ e. Tells (cell_fault text.now) e) }
 {
-    if lines.count() != 5 {
-        return false;
+    let mut reader = Reader::new(alloc);
+    let mut rest = text;
+    let mut number: u32 = 1;
+    while !rest.is_empty() {
+        let (line, after) = first_line(rest);
+        match reader.read(alloc, line) {
+            Ok(()) => {}
+            Err(LineError::Memory) => return Err(CellError::Memory),
+            Err(LineError::Fault(fault)) => return Err(CellError::Refused(number, fault)),
+        }
+        rest = after;
+        number += 1;
     }
-    if !is_same(lines.at(0), b"magcell 1") {
-        return false;
+    if number == 1 {
+        return Err(CellError::Refused(1, CellFault::NotMagcell));
     }
-    is_same(lines.at(3), b"end") && lines.at(4).is_empty()
-}
-
-/// The cell that the text spells in the simple form: one atom, at the origin.
-///
-/// The units of its metric tensor, positions and moments are all 1. `NotSimple` comes exactly where the text spells no
-/// such cell, and `Memory` for want of memory.
-pub fn read_cell(alloc: Global, text: &Bytes) -> Result<Cell, CellError>
-    ensures value { IfOk result (SpellsSimple text.now) }
-    ensures not_simple { result ≡ Err CellError.NotSimple → (c : Structure) → SpellsSimple text.now c → ⊥ }
-{
-    let Ok(lines) = Pieces::cut(alloc, text.as_slice(), b'\n') else {
-        return Err(CellError::Memory);
-    };
-    if !has_frame(&lines) {
-        return Err(CellError::NotSimple);
+    if !reader.is_ended() {
+        return Err(CellError::Refused(number, CellFault::NoEnd));
     }
-    let Ok(metric_words) = Pieces::cut(alloc, lines.at(1), b' ') else {
-        return Err(CellError::Memory);
-    };
-    let Ok(atom_words) = Pieces::cut(alloc, lines.at(2), b' ') else {
-        return Err(CellError::Memory);
-    };
-    let Some(metric) = metric_of(&metric_words) else {
-        return Err(CellError::NotSimple);
-    };
-    let Some((name, moment)) = atom_of(&atom_words) else {
-        return Err(CellError::NotSimple);
-    };
-    let atom = Atom {
-        species: 0,
-        place: [0, 0, 0],
-        moment,
-    };
-    let Ok(cell) = Cell::build(alloc, integer(1), metric, 1, 1, name, atom) else {
-        return Err(CellError::Memory);
-    };
-    Ok(cell)
+    Ok(reader)
 }
