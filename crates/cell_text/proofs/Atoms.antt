@@ -33,7 +33,7 @@ range-append k xs ys = rw (moments-append xs ys) (list_all-append _ (moments xs)
 pub range-cons : (k : ℕ) (x : AtomLine) (ys : List AtomLine) → is_billion_by k (moments (x ∷ ys)) ≡ (is_billion_by k (moments (x ∷ [])) && is_billion_by k (moments ys))
 range-cons k x ys = range-append k (x ∷ []) ys
 
-fold-append : {A B : Type 0} (f : B → A → B) (b : B) (xs ys : List A) → fold f b (xs ++ ys) ≡ fold f (fold f b xs) ys
+pub fold-append : {A B : Type 0} (f : B → A → B) (b : B) (xs ys : List A) → fold f b (xs ++ ys) ≡ fold f (fold f b xs) ys
 fold-append f b [] ys = refl
 fold-append f b (x ∷ xs) ys = fold-append f (f b x) xs ys
 

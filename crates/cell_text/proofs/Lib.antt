@@ -9,3 +9,6 @@ pub mod Judging
 pub mod Stepping
 pub mod MetricLines
 pub mod FirstUse
+pub mod Apart
+pub mod NameLemmas
+pub mod Fillings

@@ -2,11 +2,14 @@
 --   fault_after before l   the first rule that the line l breaks behind the lines before it
 --   fault_at_end before    what is wrong where the text ends behind these lines
 --   cell_fault text        the first line that breaks a rule, counted from 1, and which rule
+--   Tells first e          the error e names this first fault
 -- On a line the rules are tried in the order in which they stand here.
-use Rattle.std.specs.Prelude.{ℕ, zero, suc, ◌+◌, Bool, not, ◌==◌, ◌||◌, ◌&&◌, nat_le, List, [], ◌∷◌, ◌++◌, map, length, if◌then◌else◌}
+use Rattle.std.specs.Prelude.{◌≡◌, ⊤, ℕ, zero, suc, ◌+◌, Bool, not, ◌==◌, ◌||◌, ◌&&◌, nat_le, List, [], ◌∷◌, ◌++◌, map, length, if◌then◌else◌}
 use Rattle.std.specs.declared.option.Option.{Option}
 use Rattle.std.specs.declared.option.Option.TheVariants.{Some, None}
 use Rattle.cell_text.specs.declared.fault.CellFault.{CellFault}
+use Rattle.cell_text.specs.declared.fault.CellError.{CellError}
+use Rattle.cell_text.specs.declared.fault.CellError.TheVariants as answers
 use Rattle.cell_text.specs.declared.fault.CellFault.TheVariants.{NotMagcell, BadByte, BadLine, MetricTwice, MetricMissing, MetricRange, NotPositive, PositionRange, MomentRange, TooManyAtoms, NoAtom, SamePlace, NoEnd, AfterEnd}
 use Rattle.cell_text.specs.Text.{lines}
 use Rattle.cell_text.specs.Numbers.{when, or_else, first_of, number_fault}
@@ -75,3 +78,8 @@ first_fault before (line ∷ later) = elim (fault_after before line) [
 
 unfoldable pub cell_fault : List ℕ → Option (ℕ × CellFault)
 cell_fault text = first_fault [] (lines text)
+
+-- The answer is the first fault, with its line; or there was not enough memory.
+abbrev pub Tells : Option (ℕ × CellFault) → CellError → Type 0
+Tells first answers.Memory = ⊤
+Tells first (answers.Refused line fault) = first ≡ Some (line, fault)

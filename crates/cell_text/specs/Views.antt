@@ -4,8 +4,6 @@ use Rattle.std.specs.Prelude.{List, Option, Some, None, map, [], ◌∷◌, ◌+
 use Rattle.std.specs.declared.result.Result.{Result}
 use Rattle.std.specs.declared.result.Result.TheVariants.{Ok, Err}
 use Rattle.cell_text.specs.declared.fault.CellFault.{CellFault}
-use Rattle.cell_text.specs.declared.fault.CellError.{CellError}
-use Rattle.cell_text.specs.declared.fault.CellError.TheVariants as answers
 use Rattle.cell_text.specs.declared.fault.LineError.{LineError}
 use Rattle.cell_text.specs.declared.fault.LineError.TheVariants as errors
 use Rattle.cell_text.specs.declared.atom_line.AtomLine.{AtomLine as CodeAtom}
@@ -103,11 +101,6 @@ with_metric held m = record { metrics = held.metrics ++ m ∷ []; atoms = held.a
 
 abbrev pub with_end : Contents → Contents
 with_end held = record { metrics = held.metrics; atoms = held.atoms; ended = true }
-
--- the answer is this first fault, with its line; memory may always want
-abbrev pub Tells : Option (ℕ × CellFault) → CellError → Type 0
-Tells first answers.Memory = ⊤
-Tells first (answers.Refused line fault) = first ≡ Some (line, fault)
 
 -- no two of these atoms stand at one position
 abbrev pub AreApart : List AtomLine → Type 0

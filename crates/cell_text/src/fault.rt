@@ -68,7 +68,7 @@ pub enum CellError {
 }
 
 /// Why a line is not read.
-#[derive(Clone, Copy, Debug, PartialEq, Eq)]
+#[derive(Clone, Copy)]
 pub(crate) enum LineError {
     /// The line breaks this rule.
     Fault(CellFault),

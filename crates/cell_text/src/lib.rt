@@ -11,6 +11,7 @@
 
 mod atom;
 mod atom_line;
+mod cell;
 mod fault;
 mod fraction;
 mod line;
@@ -20,7 +21,9 @@ mod number;
 mod read;
 mod reader;
 mod scaled_metric;
+mod site;
 mod text;
 
 pub use fault::CellError;
 pub use fault::CellFault;
+pub use read::read_cell;

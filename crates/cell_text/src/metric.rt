@@ -16,7 +16,7 @@ use crystal::Metric;
 use exact_num::Int;
 
 /// The six numbers of a metric line.
-#[derive(Clone, Copy, Debug)]
+#[derive(Clone, Copy)]
 pub(crate) struct MetricLine {
     pub aa: Fraction,
     pub bb: Fraction,

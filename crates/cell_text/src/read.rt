@@ -1,18 +1,20 @@
-ghost use Rattle.std.specs.Prelude.{◌≡◌, ◌<◌, ◌^◌, ◌+◌, length, MatchResult, None};
+ghost use Rattle.std.specs.Prelude.{◌≡◌, ◌<◌, ◌^◌, ◌+◌, length, MatchResult, IfOk, IfErr, None, true};
 ghost use Rattle.cell_text.specs.Text.{lines};
 ghost use Rattle.cell_text.specs.Entries.{contents};
-ghost use Rattle.cell_text.specs.Rules.{cell_fault};
-ghost use Rattle.cell_text.specs.Views.{Tells};
+ghost use Rattle.cell_text.specs.Rules.{cell_fault, Tells};
+ghost use Rattle.cell_text.specs.CellFile.{Spells};
 
 use crate::fault::{CellError, CellFault, LineError};
 use crate::reader::Reader;
 use crate::text::first_line;
+use crystal::Cell;
+use io_edge::Bytes;
 use std::alloc::Global;
 
 /// The lines of the text, unless one breaks a rule.
-pub(crate) fn read_lines(alloc: Global, text: &[u8]) -> Result<Reader, CellError>
+fn read_lines(alloc: Global, text: &[u8]) -> Result<Reader, CellError>
     requires { length text.now + 1 < 2 ^ 32 }
-    ensures { MatchResult result (λ r. (cell_fault text.now ≡ None) × (r.held ≡ contents (lines text.now))) (λ e. Tells (cell_fault text.now) e) }
+    ensures { MatchResult result (λ r. (cell_fault text.now ≡ None) × (r.held ≡ contents (lines text.now)) × (r.held.ended ≡ true)) (λ e. Tells (cell_fault text.now) e) }
 {
     let mut reader = Reader::new(alloc);
     let mut rest = text;
@@ -34,4 +36,23 @@ pub(crate) fn read_lines(alloc: Global, text: &[u8]) -> Result<Reader, CellError
         return Err(CellError::Refused(number, CellFault::NoEnd));
     }
     Ok(reader)
+}
+
+/// The cell that the text of a cell file `magcell 1` spells.
+///
+/// Asks that the text has fewer than 2^32 - 1 bytes. `Refused` names the first line that breaks a rule, counted from 1, and
+/// the first rule that it breaks; `Memory` comes for want of memory alone.
+pub fn read_cell(alloc: Global, text: &Bytes) -> Result<Cell, CellError>
+    requires { length text.now + 1 < 2 ^ 32 }
+    ensures value { IfOk result (Spells text.now) }
+    ensures refused { IfErr result (Tells (cell_fault text.now)) }
+{
+    let reader = match read_lines(alloc, text.as_slice()) {
+        Ok(reader) => reader,
+        Err(error) => return Err(error),
+    };
+    let Ok(cell) = reader.finish(alloc) else {
+        return Err(CellError::Memory);
+    };
+    Ok(cell)
 }

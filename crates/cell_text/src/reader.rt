@@ -1,19 +1,22 @@
-ghost use Rattle.std.specs.Prelude.{true, ◌≡◌, ◌+◌, ◌^◌, ◌<◌, ◌≤◌, ◌++◌, [], ◌∷◌, length, map, OnOk, false};
+ghost use Rattle.std.specs.Prelude.{true, ◌≡◌, ◌+◌, ◌^◌, ◌<◌, ◌≤◌, ◌++◌, [], ◌∷◌, length, map, OnOk, IfOk, false};
 ghost use Rattle.std.specs.List.{list_all};
 ghost use Rattle.cell_text.specs.Numbers.{scaled};
 ghost use Rattle.cell_text.specs.Entries.{moments, is_billion, atom_of, metric_of};
 ghost use Rattle.cell_text.specs.Rules.{same_place, heading_fault, later_fault, judged};
+ghost use Rattle.cell_text.specs.CellFile.{cell_with};
 ghost use Rattle.cell_text.specs.Lines.{is_atom_line};
 ghost use Rattle.cell_text.specs.Views.{Judges, State, with_atom, with_metric, with_line, metric_line_faults, atom_faults, atom_view, atom_line_faults, end_line_faults, with_end};
 
 use crate::atom::{are_moments_in_range, atom_of, is_moment_in_range, same_place};
 use crate::atom_line::AtomLine;
+use crate::cell::cell_of;
 use crate::fault::{CellFault, LineError};
 use crate::line::{has_bad_byte, Line};
 use crate::metric::metric_of;
 use crate::number::grown;
 use crate::scaled_metric::ScaledMetric;
-use std::alloc::Global;
+use crystal::Cell;
+use std::alloc::{AllocError, Global};
 use std::marker::Model;
 
 /// The lines so far.
@@ -59,6 +62,17 @@ impl Reader {
         ensures { result ≡ self.now.held.ended }
     {
         self.ended
+    }
+
+    /// The cell of the lines. Refuses for want of memory alone.
+    pub(crate) fn finish(&self, alloc: Global) -> Result<Cell, AllocError>
+        requires { self.now.held.ended ≡ true }
+        ensures { IfOk result (λ c. c ≡ cell_with self.now.held) }
+    {
+        let Some(metric) = self.metric else {
+            unreachable!();
+        };
+        cell_of(alloc, &metric, self.n as u32, self.k as u32, &self.atoms)
     }
 
     fn are_moments_in_range(&self, atom: &AtomLine, k: u128) -> bool

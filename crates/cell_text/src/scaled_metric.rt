@@ -5,7 +5,7 @@ ghost use Rattle.crystal.specs.Bounds.{EntriesAtMost};
 use crystal::Metric;
 
 /// A metric tensor in units of 1/scale.
-#[derive(Clone, Copy, Debug)]
+#[derive(Clone, Copy)]
 pub(crate) struct ScaledMetric {
     pub scale: u128,
     pub metric: Metric,
