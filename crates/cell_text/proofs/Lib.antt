@@ -1,3 +1,4 @@
+mod KnownValues
 pub mod Cutting
 pub mod Multiples
 pub mod Minors

@@ -22,6 +22,8 @@ mod read;
 mod reader;
 mod scaled_metric;
 mod site;
+#[cfg(test)]
+mod tests;
 mod text;
 
 pub use fault::CellError;
