@@ -3,15 +3,15 @@
 -- Let n be a multiple of both denominators. If two fractions f = a/x and g = b/y have the same part of 1/n modulo n, then
 -- n f - n g is a multiple t n of n. With n = P x = Q y, P Q times a y - b x is then t n n = t (P Q) (x y), so a y - b x
 -- is a multiple of x y, which is what `is_same_modulo_1` tests.
-use Rattle.std.proofs.Common.{◌≡◌, ℕ, zero, suc, ◌+◌, ◌*◌, ◌/◌, ◌%◌, ◌<◌, Bool, true, false, List, [], ◌∷◌, ◌++◌, map, refl, sym, ap, subst, ◌∙◌, arith}
-use Rattle.std.specs.Prelude.{ℤ, pos, neg_ℤ, ◌+ℤ◌, ◌-ℤ◌, ◌*ℤ◌, unsigned_abs, not, ◌&&◌, ◌==◌}
+use Rattle.std.proofs.Common.{◌≡◌, ℕ, zero, suc, ◌*◌, ◌/◌, ◌%◌, ◌<◌, Bool, true, List, [], ◌∷◌, ◌++◌, map, refl, sym, ap, ◌∙◌, arith}
+use Rattle.std.specs.Prelude.{ℤ, pos, neg_ℤ, ◌+ℤ◌, ◌-ℤ◌, ◌*ℤ◌, unsigned_abs, not, ◌&&◌}
 use Rattle.std.specs.Int.{◌∣◌}
 use Rattle.std.specs.List.{fold, list_all}
 use Rattle.std.proofs.lemmas.Bool.{and_parts, eq-eqb}
-use Rattle.std.proofs.lemmas.Int.{ints, unsigned_abs-mul}
+use Rattle.std.proofs.lemmas.Int.{unsigned_abs-mul}
 use Rattle.std.proofs.lemmas.List.Folds.{list_all-append}
 use Rattle.std.proofs.lemmas.Nat.Gcd.{dvd_refl, dvd_trans}
-use Rattle.std.proofs.Math.Nat.{div-mul_cancel, mul-div_cancel_left, mul-mod_left, pos_of_dvd_of_pos, mul-pos}
+use Rattle.std.proofs.Math.Nat.{div-mul_cancel, mul-div_cancel_left, mul-mod_left, mul-pos}
 use Rattle.ring.specs.Ring.{int_ops, var, opposite, ◌:+◌, ◌:*◌}
 use Rattle.ring.proofs.Solving.{by_ring, at, solve_from}
 use Rattle.ring.proofs.IntRing.{int_laws}
@@ -35,17 +35,17 @@ cancel p a b h e = sym (mul-div_cancel_left a h) ∙ ap (λ (m : ℕ). m / p) e 
 products : (a b P Q x y n u v : ℤ) → P *ℤ x ≡ n → Q *ℤ y ≡ n → a *ℤ P +ℤ u *ℤ n ≡ b *ℤ Q +ℤ v *ℤ n → (P *ℤ Q) *ℤ (a *ℤ y -ℤ b *ℤ x) ≡ (P *ℤ Q) *ℤ ((v -ℤ u) *ℤ (x *ℤ y))
 products a b P Q x y n u v p q e =
     by_ring int_ops int_laws (a ∷ b ∷ P ∷ Q ∷ x ∷ y ∷ []) ((var 2 :* var 3) :* (var 0 :* var 5 :+ opposite (var 1 :* var 4))) ((var 0 :* var 2) :* (var 3 :* var 5) :+ opposite ((var 1 :* var 3) :* (var 2 :* var 4))) refl
-      ∙ ap (λ (m : ℤ). (a *ℤ P) *ℤ m +ℤ neg_ℤ ((b *ℤ Q) *ℤ (P *ℤ x))) q
-      ∙ ap (λ (m : ℤ). (a *ℤ P) *ℤ n +ℤ neg_ℤ ((b *ℤ Q) *ℤ m)) p
-      ∙ solve_from int_ops int_laws (at int_ops int_laws ((a *ℤ P) ∷ (b *ℤ Q) ∷ n ∷ u ∷ v ∷ [])) (var 0 :* var 2 :+ opposite (var 1 :* var 2)) ((var 4 :+ opposite (var 3)) :* (var 2 :* var 2)) (var 2) (var 0 :+ var 3 :* var 2) (var 1 :+ var 4 :* var 2) e refl
-      ∙ ap (λ (m : ℤ). (v +ℤ neg_ℤ u) *ℤ (m *ℤ n)) (sym p)
-      ∙ ap (λ (m : ℤ). (v +ℤ neg_ℤ u) *ℤ ((P *ℤ x) *ℤ m)) (sym q)
-      ∙ by_ring int_ops int_laws (P ∷ Q ∷ x ∷ y ∷ u ∷ v ∷ []) ((var 5 :+ opposite (var 4)) :* ((var 0 :* var 2) :* (var 1 :* var 3))) ((var 0 :* var 1) :* ((var 5 :+ opposite (var 4)) :* (var 2 :* var 3))) refl
+    ∙ ap (λ (m : ℤ). (a *ℤ P) *ℤ m +ℤ neg_ℤ ((b *ℤ Q) *ℤ (P *ℤ x))) q
+    ∙ ap (λ (m : ℤ). (a *ℤ P) *ℤ n +ℤ neg_ℤ ((b *ℤ Q) *ℤ m)) p
+    ∙ solve_from int_ops int_laws (at int_ops int_laws ((a *ℤ P) ∷ (b *ℤ Q) ∷ n ∷ u ∷ v ∷ [])) (var 0 :* var 2 :+ opposite (var 1 :* var 2)) ((var 4 :+ opposite (var 3)) :* (var 2 :* var 2)) (var 2) (var 0 :+ var 3 :* var 2) (var 1 :+ var 4 :* var 2) e refl
+    ∙ ap (λ (m : ℤ). (v +ℤ neg_ℤ u) *ℤ (m *ℤ n)) (sym p)
+    ∙ ap (λ (m : ℤ). (v +ℤ neg_ℤ u) *ℤ ((P *ℤ x) *ℤ m)) (sym q)
+    ∙ by_ring int_ops int_laws (P ∷ Q ∷ x ∷ y ∷ u ∷ v ∷ []) ((var 5 :+ opposite (var 4)) :* ((var 0 :* var 2) :* (var 1 :* var 3))) ((var 0 :* var 1) :* ((var 5 :+ opposite (var 4)) :* (var 2 :* var 3))) refl
 
 multiple_of : (p : ℕ) (d t : ℤ) (w : ℕ) → 0 < p → pos p *ℤ d ≡ pos p *ℤ (t *ℤ pos w) → unsigned_abs d % w ≡ 0
 multiple_of p d t w h e =
     let sizes : p * unsigned_abs d ≡ p * (unsigned_abs t * w) =
-      sym (unsigned_abs-mul (pos p) d) ∙ ap unsigned_abs e ∙ unsigned_abs-mul (pos p) (t *ℤ pos w) ∙ ap (λ (m : ℕ). p * m) (unsigned_abs-mul t (pos w)) in
+    sym (unsigned_abs-mul (pos p) d) ∙ ap unsigned_abs e ∙ unsigned_abs-mul (pos p) (t *ℤ pos w) ∙ ap (λ (m : ℕ). p * m) (unsigned_abs-mul t (pos w)) in
     ap (λ (m : ℕ). m % w) (cancel p (unsigned_abs d) (unsigned_abs t * w) h sizes) ∙ mul-mod_left (unsigned_abs t) w
 
 -- the same part of 1/n

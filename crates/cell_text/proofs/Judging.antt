@@ -1,10 +1,10 @@
 -- Which rules are left for each kind of line.
-use Rattle.std.proofs.Common.{◌≡◌, ℕ, zero, suc, ◌+◌, Bool, true, false, List, [], ◌∷◌, ◌++◌, length, get_or, drop, map, Option, Some, None, refl, sym, ap, ◌∙◌, arith}
+use Rattle.std.proofs.Common.{◌≡◌, ℕ, suc, Bool, true, false, List, [], ◌∷◌, ◌++◌, length, get_or, Option, Some, None, refl, sym, ap, ◌∙◌, arith}
 use Rattle.std.proofs.Common.{inl, inr}
 use Rattle.std.specs.Prelude.{◌⊎◌, ◌||◌, ◌&&◌, not, ◌==◌}
 use Rattle.std.specs.List.{list_any, flat_map}
-use Rattle.std.proofs.lemmas.Bool.{and_parts, eqb-true, eq-eqb}
-use Rattle.std.proofs.Math.Bool.{or-false, or-true}
+use Rattle.std.proofs.lemmas.Bool.{and_parts, eqb-true}
+use Rattle.std.proofs.Math.Bool.{or-false}
 use Rattle.std.proofs.lemmas.List.{append-nil}
 use Rattle.std.specs.Cmp.Lexicographic.{same_text}
 use Rattle.std.proofs.Common.{eqb}
@@ -13,9 +13,9 @@ use Rattle.cell_text.specs.declared.fault.CellFault.{CellFault}
 use Rattle.cell_text.specs.declared.fault.CellFault.TheVariants.{BadByte, NotMagcell, AfterEnd, BadLine}
 use Rattle.crystal.specs.Names.{is_name}
 use Rattle.cell_text.specs.Text.{words}
-use Rattle.cell_text.specs.Numbers.{or_else, first_of, when, number_fault}
+use Rattle.cell_text.specs.Numbers.{or_else, when}
 use Rattle.cell_text.specs.Lines.{same_word, word_at, word_count, magcell_word, metric_word, atom_word, end_word, one_word, is_heading, is_metric_line, is_atom_line, is_end_line, is_skipped, begins_comment, has_bad_byte, number_words}
-use Rattle.cell_text.specs.Rules.{later_fault, heading_fault, judged}
+use Rattle.cell_text.specs.Rules.{later_fault, heading_fault}
 use Rattle.cell_text.specs.Entries.{AtomLine, ScaledMetric, Contents, contents, atom_of, metric_of, one_if}
 use Rattle.cell_text.specs.Views.{with_line, with_atom, with_metric, with_end, atom_faults, atom_line_faults, metric_line_faults, end_line_faults}
 
@@ -71,7 +71,7 @@ by_word line w e m a n = record {
   no_metric = no_metric line (other_word line w metric_word e m);
   no_atom = no_atom line (other_word line w atom_word e a);
   no_end = no_end line (other_word line w end_word e n);
-  }
+}
 
 pub heading-other : (line : List ℕ) → is_heading line ≡ true → IsOther line
 heading-other line e = by_word line magcell_word (heading_front line e) refl refl refl
@@ -93,11 +93,11 @@ unfolding is_skipped
 skipped-other line e = elim (or_cases (word_count line == 0) (begins_comment (word_at line 0)) e) [
   | inl none ↦ by_word line [] (none_at (words line) none) refl refl refl
   | inr comment ↦ record {
-      no_metric = no_metric line (not_comment (word_at line 0) _ _ comment refl);
-      no_atom = no_atom line (not_comment (word_at line 0) _ _ comment refl);
-      no_end = no_end line (not_comment (word_at line 0) _ _ comment refl);
-      }
-  ]
+    no_metric = no_metric line (not_comment (word_at line 0) _ _ comment refl);
+    no_atom = no_atom line (not_comment (word_at line 0) _ _ comment refl);
+    no_end = no_end line (not_comment (word_at line 0) _ _ comment refl);
+  }
+]
 
 -- ---- what is left of the rules
 
@@ -163,7 +163,7 @@ contents-more before line = λ i. record {
   metrics = (flat_map-append (λ (l : List ℕ). one_if (is_metric_line l) (metric_of l)) before (line ∷ []) ∙ ap (λ (ms : List ScaledMetric). flat_map (λ (l : List ℕ). one_if (is_metric_line l) (metric_of l)) before ++ ms) (append-nil _)) i;
   atoms = (flat_map-append (λ (l : List ℕ). one_if (is_atom_line l) (atom_of l)) before (line ∷ []) ∙ ap (λ (ms : List AtomLine). flat_map (λ (l : List ℕ). one_if (is_atom_line l) (atom_of l)) before ++ ms) (append-nil _)) i;
   ended = any-append is_end_line before line i;
-  }
+}
 
 passed : (a b : Bool) → or_else (when a BadByte) (or_else (when (not b) NotMagcell) None) ≡ None → b ≡ true
 passed true b e = absurd cc

@@ -4,7 +4,7 @@ use Rattle.std.specs.List.{flat_map}
 use Rattle.std.proofs.Common.{refl}
 use Rattle.numbers.specs.Gcd.{gcd, lcm}
 use Rattle.numbers.specs.Residue.{residue}
-use Rattle.cell_text.specs.declared.fault.CellFault.TheVariants.{NotMagcell, BadByte, BadLine, BadNumber, NumberRange, ZeroDenominator, MetricTwice, MetricMissing, MetricRange, NotPositive, PositionRange, MomentRange, TooManyAtoms, NoAtom, SamePlace, NoEnd, AfterEnd}
+use Rattle.cell_text.specs.declared.fault.CellFault.TheVariants.{NotMagcell, BadByte, BadLine, BadNumber, NumberRange, ZeroDenominator, MetricMissing, MetricRange, NotPositive, PositionRange, MomentRange, TooManyAtoms, NoAtom, SamePlace, NoEnd, AfterEnd}
 use Rattle.cell_text.specs.Text.{lines}
 use Rattle.cell_text.specs.Numbers.{number_fault, number_value}
 use Rattle.cell_text.specs.Lines.{is_skipped, is_heading, has_bad_byte, is_metric_line, is_atom_line, is_end_line, number_words}

@@ -1,5 +1,5 @@
 -- Metric lines: the least scale, the range, and the metric tensor in units of 1/scale.
-use Rattle.std.proofs.Common.{◌≡◌, ℕ, ◌<◌, ◌≤◌, Bool, true, false, List, [], ◌∷◌, ◌++◌, refl, sym, ap, subst, ◌∙◌, arith}
+use Rattle.std.proofs.Common.{◌≡◌, ℕ, ◌<◌, ◌≤◌, Bool, true, false, List, refl, sym, ap, subst, ◌∙◌, arith}
 use Rattle.std.specs.Prelude.{◌&&◌, nat_le, ℤ, unsigned_abs}
 use Rattle.std.specs.List.{list_all}
 use Rattle.std.proofs.lemmas.Bool.{le-leb, lt-leb, leb-true, and_parts}
@@ -7,7 +7,7 @@ use Rattle.ring.specs.Size.{AtMost}
 use Rattle.numbers.specs.Gcd.{lcm}
 use Rattle.cell_text.specs.declared.metric.MetricLine.{MetricLine}
 use Rattle.cell_text.specs.Numbers.{Fraction, common_denominator, scaled}
-use Rattle.cell_text.specs.Entries.{metric_values, metric_of, is_metric_in_range, is_billion, ScaledMetric}
+use Rattle.cell_text.specs.Entries.{metric_values, metric_of, is_metric_in_range, is_billion}
 use Rattle.cell_text.specs.Views.{Grown}
 use Rattle.cell_text.specs.Readers.{fractions, scaled_tensor}
 use Rattle.cell_text.proofs.Multiples.{lcm-positive, lcm-grows_left, past_one}

@@ -1,11 +1,11 @@
 -- One more atom for the reader.
-use Rattle.std.proofs.Common.{◌≡◌, ℕ, ◌<◌, ◌≤◌, Bool, true, false, [], ◌∷◌, ◌++◌, map, refl, sym, ap, subst, ◌∙◌, Option, Some, None, arith}
+use Rattle.std.proofs.Common.{◌≡◌, ℕ, ◌<◌, ◌≤◌, Bool, true, false, [], ◌∷◌, ◌++◌, map, refl, sym, ap, subst, ◌∙◌, Option, Some, None}
 use Rattle.cell_text.specs.declared.atom_line.AtomLine.{AtomLine as CodeAtom}
 use Rattle.cell_text.specs.declared.fault.CellFault.{CellFault}
 use Rattle.cell_text.specs.declared.fault.CellFault.TheVariants.{PositionRange, MomentRange, SamePlace}
 use Rattle.cell_text.specs.declared.reader.Reader.TheInside.{Inside}
 use Rattle.std.proofs.Common.{List}
-use Rattle.std.specs.Prelude.{not, ◌&&◌, ◌+◌}
+use Rattle.std.specs.Prelude.{not, ◌+◌}
 use Rattle.std.specs.List.{list_all}
 use Rattle.std.proofs.lemmas.Bool.{and_parts}
 use Rattle.std.proofs.lemmas.List.{map-append}
@@ -16,7 +16,7 @@ use Rattle.cell_text.specs.Entries.{AtomLine, moments, positions, is_same_place}
 use Rattle.cell_text.specs.Rules.{same_place, same_place_from}
 use Rattle.cell_text.specs.Views.{atom_view, atom_faults, State, Grown, AreApart}
 use Rattle.cell_text.specs.Readers.{state_of, IsReader}
-use Rattle.cell_text.proofs.Atoms.{is_billion_by, range-append, positions_more, moments_more, positions_fit, positions_past, moments_are, moments_past, faults-position, faults-moment, faults-place}
+use Rattle.cell_text.proofs.Atoms.{is_billion_by, positions_more, moments_more, positions_fit, positions_past, moments_are, moments_past, faults-position, faults-moment, faults-place}
 
 -- the reader's state, and an atom that fits with the positions so far
 pub range_held : (r : Inside) (s : State) (a : AtomLine) (k : ℕ) → state_of r ≡ s → (is_billion_by k (moments (map atom_view r.atoms.items ++ a ∷ [])) ≡ is_billion_by k (moments (s.held.atoms ++ a ∷ [])))
@@ -40,14 +40,14 @@ place-moment r s a n h v g w over =
 pub place-wide : (r : Inside) (s : State) (a : CodeAtom) (n k : ℕ) → IsReader r → state_of r ≡ s → Fits r a n k → is_billion_by k (moments (s.held.atoms ++ atom_view a ∷ [])) ≡ false → atom_faults s.held (atom_view a) ≡ Some MomentRange
 place-wide r s a n k h v f wide =
     subst (λ (t : State). atom_faults t.held (atom_view a) ≡ Some MomentRange) v (faults-moment (state_of r).held (atom_view a)
-      (positions_fit (map atom_view r.atoms.items) (atom_view a) r.n h.n_is (rw (← f.n_is.is) f.n_within))
-      (moments_are (map atom_view r.atoms.items) (atom_view a) r.k k false h.k_is f.k_is.is f.k_within (sym (range_held r s (atom_view a) k v ∙ wide))))
+    (positions_fit (map atom_view r.atoms.items) (atom_view a) r.n h.n_is (rw (← f.n_is.is) f.n_within))
+    (moments_are (map atom_view r.atoms.items) (atom_view a) r.k k false h.k_is f.k_is.is f.k_within (sym (range_held r s (atom_view a) k v ∙ wide))))
 
 pub place-rest : (r : Inside) (s : State) (a : CodeAtom) (n k : ℕ) (fault : Option CellFault) → IsReader r → state_of r ≡ s → Fits r a n k → is_billion_by k (moments (s.held.atoms ++ atom_view a ∷ [])) ≡ true → same_place (map atom_view r.atoms.items) (atom_view a) ≡ fault → atom_faults s.held (atom_view a) ≡ fault
 place-rest r s a n k fault h v f fit same =
     subst (λ (t : State). atom_faults t.held (atom_view a) ≡ fault) v (faults-place (state_of r).held (atom_view a) fault
-      (positions_fit (map atom_view r.atoms.items) (atom_view a) r.n h.n_is (rw (← f.n_is.is) f.n_within))
-      (moments_are (map atom_view r.atoms.items) (atom_view a) r.k k true h.k_is f.k_is.is f.k_within (sym (range_held r s (atom_view a) k v ∙ fit))) same)
+    (positions_fit (map atom_view r.atoms.items) (atom_view a) r.n h.n_is (rw (← f.n_is.is) f.n_within))
+    (moments_are (map atom_view r.atoms.items) (atom_view a) r.k k true h.k_is f.k_is.is f.k_within (sym (range_held r s (atom_view a) k v ∙ fit))) same)
 
 pub placed_n : (xs ys : List CodeAtom) (a : CodeAtom) (old n : ℕ) → old ≡ common_denominator (positions (map atom_view xs)) → Grown old a.x.den a.y.den a.z.den n → ys ≡ xs ++ a ∷ [] → n ≡ common_denominator (positions (map atom_view ys))
 placed_n xs ys a old n e g same =

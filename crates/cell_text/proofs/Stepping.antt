@@ -1,11 +1,11 @@
 -- One line more for the reader.
-use Rattle.std.proofs.Common.{◌≡◌, ℕ, zero, suc, ◌+◌, ◌≤◌, ◌<◌, Bool, true, false, List, [], ◌∷◌, ◌++◌, length, map, Option, Some, None, Result, Ok, Err, refl, sym, ap, subst, ◌∙◌, arith, append_assoc, length-append}
+use Rattle.std.proofs.Common.{◌≡◌, ℕ, zero, suc, ◌+◌, true, false, List, [], ◌∷◌, ◌++◌, length, Option, Some, None, refl, sym, ap, ◌∙◌, arith, length-append}
 use Rattle.cell_text.specs.declared.fault.CellFault.{CellFault}
 use Rattle.cell_text.specs.declared.fault.LineError.{LineError}
 use Rattle.cell_text.specs.declared.fault.LineError.TheVariants as errors
 use Rattle.cell_text.specs.declared.reader.Reader.TheInside.{Inside}
 use Rattle.cell_text.specs.Entries.{Contents, contents}
-use Rattle.cell_text.specs.Rules.{judged, heading_fault, later_fault, fault_after, fault_at_end, first_fault, numbered}
+use Rattle.cell_text.specs.Rules.{judged, heading_fault, later_fault, fault_after, first_fault}
 use Rattle.cell_text.specs.Lines.{is_skipped}
 use Rattle.cell_text.specs.Views.{State, Refuses, state_with, with_line}
 use Rattle.cell_text.specs.Readers.{state_of}

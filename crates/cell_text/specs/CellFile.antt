@@ -5,7 +5,7 @@
 --   cell_with held  the cell of these contents: scale, n and k are the least common denominators of the metric tensor, of
 --                   all positions and of all moments
 --   Spells text c   no line of the text breaks a rule, and c is the cell of its lines
-use Rattle.std.specs.Prelude.{◌≡◌, ℕ, ℤ, pos, Bool, List, [], ◌∷◌, ◌++◌, map, get_or, if◌then◌else◌}
+use Rattle.std.specs.Prelude.{◌≡◌, ℕ, ℤ, pos, List, [], ◌∷◌, ◌++◌, map, get_or, if◌then◌else◌}
 use Rattle.std.specs.List.{fold, list_any, position_or_len}
 use Rattle.std.specs.declared.option.Option.TheVariants.{None}
 use Rattle.numbers.specs.Residue.{residue}

@@ -3,8 +3,7 @@
 --   filled held as     the cell of these contents with the first atoms alone
 use Rattle.std.specs.Prelude.{ℕ, pos, List, [], ◌∷◌, ◌++◌, map, true}
 use Rattle.crystal_spec.specs.Crystals.{Structure}
-use Rattle.cell_text.specs.Numbers.{common_denominator}
-use Rattle.cell_text.specs.Entries.{AtomLine, ScaledMetric, Contents, positions, moments}
+use Rattle.cell_text.specs.Entries.{AtomLine, ScaledMetric, Contents}
 use Rattle.cell_text.specs.CellFile.{with_name, names_of, site_of}
 
 abbrev pub with_site : Structure → AtomLine → Structure

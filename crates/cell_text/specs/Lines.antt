@@ -5,7 +5,7 @@
 --   is_skipped l     the line has no words, or is a comment
 --   number_words l   the words that are to be numbers
 -- The format is our own.
-use Rattle.std.specs.Prelude.{ℕ, ◌+◌, Bool, true, false, not, ◌==◌, ◌||◌, ◌&&◌, nat_le, List, [], ◌∷◌, length, get_or, drop, if◌then◌else◌, nat_eq, codes}
+use Rattle.std.specs.Prelude.{ℕ, Bool, false, not, ◌==◌, ◌||◌, ◌&&◌, nat_le, List, [], ◌∷◌, length, get_or, drop, if◌then◌else◌, nat_eq, codes}
 use Rattle.std.specs.Cmp.Lexicographic.{pointwise}
 use Rattle.std.specs.List.{list_any}
 use Rattle.crystal.specs.Names.{is_name}

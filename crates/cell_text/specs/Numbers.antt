@@ -6,7 +6,7 @@
 --   scaled d f             d · f, an integer where d is a multiple of the denominator
 --   is_same_modulo_1 f g   the two differ by an integer
 -- The format is our own.
-use Rattle.std.specs.Prelude.{ℕ, zero, suc, ℤ, pos, negsuc, neg_ℤ, ◌+◌, ◌-◌, ◌*◌, ◌/◌, ◌%◌, ◌*ℤ◌, ◌-ℤ◌, Bool, true, false, not, ◌==◌, ◌||◌, ◌&&◌, nat_le, nat_lt, List, [], ◌∷◌, length, if◌then◌else◌, unsigned_abs}
+use Rattle.std.specs.Prelude.{ℕ, ℤ, pos, neg_ℤ, ◌+◌, ◌-◌, ◌*◌, ◌/◌, ◌%◌, ◌*ℤ◌, ◌-ℤ◌, Bool, false, not, ◌==◌, ◌||◌, ◌&&◌, nat_le, nat_lt, List, [], ◌∷◌, length, if◌then◌else◌, unsigned_abs}
 use Rattle.std.specs.List.{fold, list_all}
 use Rattle.std.specs.declared.option.Option.{Option}
 use Rattle.std.specs.declared.option.Option.TheVariants.{Some, None}
@@ -101,7 +101,7 @@ denominator word = after_slash (without_sign word)
 -- why the word spells no number: it has another form, a part is too long, the denominator is 0
 unfoldable pub number_fault : List ℕ → Option CellFault
 number_fault word = first_of
-    ( when (not (is_digits (numerator word) && is_digits (denominator word))) BadNumber
+    (when (not (is_digits (numerator word) && is_digits (denominator word))) BadNumber
     ∷ when (nat_lt 18 (length (numerator word)) || nat_lt 18 (length (denominator word))) NumberRange
     ∷ when (decimal (denominator word) == 0) ZeroDenominator
     ∷ [])

@@ -4,7 +4,7 @@ use Rattle.std.specs.declared.option.Option.{Option}
 use Rattle.std.specs.declared.option.Option.TheVariants.{Some, None}
 use Rattle.crystal.specs.Views.{metric_of as tensor}
 use Rattle.cell_text.specs.Numbers.{Fraction, common_denominator, scaled}
-use Rattle.cell_text.specs.Entries.{ScaledMetric, Contents, positions, moments, symmetric, is_positive}
+use Rattle.cell_text.specs.Entries.{ScaledMetric, positions, moments, symmetric, is_positive}
 use Rattle.cell_text.specs.Views.{fraction_of, atom_view, State, AreApart}
 use Rattle.cell_text.specs.declared.scaled_metric.ScaledMetric.{ScaledMetric as CodeMetric}
 use Rattle.cell_text.specs.declared.metric.MetricLine.{MetricLine}

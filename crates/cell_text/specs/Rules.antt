@@ -4,7 +4,7 @@
 --   cell_fault text        the first line that breaks a rule, counted from 1, and which rule
 --   Tells first e          the error e names this first fault
 -- On a line the rules are tried in the order in which they stand here.
-use Rattle.std.specs.Prelude.{◌≡◌, ⊤, ℕ, zero, suc, ◌+◌, Bool, not, ◌==◌, ◌||◌, ◌&&◌, nat_le, List, [], ◌∷◌, ◌++◌, map, length, if◌then◌else◌}
+use Rattle.std.specs.Prelude.{◌≡◌, ⊤, ℕ, zero, suc, ◌+◌, not, ◌==◌, ◌||◌, ◌&&◌, nat_le, List, [], ◌∷◌, ◌++◌, map, length, if◌then◌else◌}
 use Rattle.std.specs.declared.option.Option.{Option}
 use Rattle.std.specs.declared.option.Option.TheVariants.{Some, None}
 use Rattle.cell_text.specs.declared.fault.CellFault.{CellFault}
@@ -28,14 +28,14 @@ same_place held b = same_place_from 1 (length held + 1) held b
 -- The first line.
 abbrev pub heading_fault : List ℕ → Option CellFault
 heading_fault line = first_of
-    ( when (has_bad_byte line) BadByte
+    (when (has_bad_byte line) BadByte
     ∷ when (not (is_heading line)) NotMagcell
     ∷ [])
 
 -- A later line that is not skipped, behind lines with these contents.
 unfoldable pub later_fault : Contents → List ℕ → Option CellFault
 later_fault before line = first_of
-    ( when (has_bad_byte line) BadByte
+    (when (has_bad_byte line) BadByte
     ∷ when before.ended AfterEnd
     ∷ when (not (is_metric_line line || is_atom_line line || is_end_line line)) BadLine
     ∷ when (is_metric_line line && not (length before.metrics == 0)) MetricTwice
@@ -74,7 +74,7 @@ first_fault before [] = numbered (length before + 1) (fault_at_end before)
 first_fault before (line ∷ later) = elim (fault_after before line) [
   | Some fault ↦ Some (length before + 1, fault)
   | None ↦ first_fault (before ++ line ∷ []) later
-  ]
+]
 
 unfoldable pub cell_fault : List ℕ → Option (ℕ × CellFault)
 cell_fault text = first_fault [] (lines text)

@@ -1,15 +1,15 @@
 -- What the values of the code stand for, and the rules that are left for each kind of line.
 use Rattle.std.specs.Prelude.{◌≡◌, ℕ, ◌<◌, ◌≤◌}
-use Rattle.std.specs.Prelude.{List, Option, Some, None, map, [], ◌∷◌, ◌++◌, ◌+◌, ◌||◌, ◌==◌, nat_le, drop, length, true, suc, Bool, not, ⊤}
+use Rattle.std.specs.Prelude.{List, Option, Some, None, map, [], ◌∷◌, ◌++◌, ◌||◌, ◌==◌, nat_le, drop, length, true, not, ⊤}
 use Rattle.std.specs.declared.result.Result.{Result}
 use Rattle.std.specs.declared.result.Result.TheVariants.{Ok, Err}
 use Rattle.cell_text.specs.declared.fault.CellFault.{CellFault}
 use Rattle.cell_text.specs.declared.fault.LineError.{LineError}
 use Rattle.cell_text.specs.declared.fault.LineError.TheVariants as errors
 use Rattle.cell_text.specs.declared.atom_line.AtomLine.{AtomLine as CodeAtom}
-use Rattle.cell_text.specs.Numbers.{Fraction, signed, scaled, common_denominator, first_of, when, number_fault}
+use Rattle.cell_text.specs.Numbers.{Fraction, signed, first_of, when, number_fault}
 use Rattle.numbers.specs.Gcd.{lcm}
-use Rattle.cell_text.specs.Entries.{is_same_place, AtomLine, Contents, ScaledMetric, symmetric, positions, moments, atom_of, metric_of, one_if, are_positions_in_range, are_moments_in_range, is_metric_in_range, is_positive}
+use Rattle.cell_text.specs.Entries.{is_same_place, AtomLine, Contents, ScaledMetric, atom_of, metric_of, one_if, are_positions_in_range, are_moments_in_range, is_metric_in_range, is_positive}
 use Rattle.cell_text.specs.Lines.{is_atom_line, is_metric_line, is_end_line}
 use Rattle.cell_text.specs.Rules.{same_place}
 use Rattle.std.specs.List.{list_all}
@@ -69,7 +69,7 @@ state_with n held = record { count = n; held = held }
 -- the rules on an atom line whose words are numbers
 unfoldable pub atom_faults : Contents → AtomLine → Option CellFault
 atom_faults held a = first_of
-    ( when (not (are_positions_in_range (held.atoms ++ a ∷ []))) PositionRange
+    (when (not (are_positions_in_range (held.atoms ++ a ∷ []))) PositionRange
     ∷ when (not (are_moments_in_range (held.atoms ++ a ∷ []))) MomentRange
     ∷ same_place held.atoms a
     ∷ [])
@@ -77,14 +77,14 @@ atom_faults held a = first_of
 -- the rules on an atom line, on a metric line and on an end line that come after BadLine
 unfoldable pub atom_line_faults : Contents → List ℕ → Option CellFault
 atom_line_faults held line = first_of
-    ( when (nat_le 512 (length held.atoms)) TooManyAtoms
+    (when (nat_le 512 (length held.atoms)) TooManyAtoms
     ∷ first_of (map number_fault (drop 2 (words line)))
     ∷ atom_faults held (atom_of line)
     ∷ [])
 
 unfoldable pub metric_line_faults : Contents → List ℕ → Option CellFault
 metric_line_faults held line = first_of
-    ( when (not (length held.metrics == 0)) MetricTwice
+    (when (not (length held.metrics == 0)) MetricTwice
     ∷ first_of (map number_fault (drop 1 (words line)))
     ∷ when (not (is_metric_in_range line)) MetricRange
     ∷ when (not (is_positive (metric_of line).entries)) NotPositive
@@ -92,7 +92,7 @@ metric_line_faults held line = first_of
 
 unfoldable pub end_line_faults : Contents → Option CellFault
 end_line_faults held = first_of
-    ( when (length held.metrics == 0) MetricMissing
+    (when (length held.metrics == 0) MetricMissing
     ∷ when (length held.atoms == 0) NoAtom
     ∷ [])
 

@@ -26,6 +26,5 @@ mod site;
 mod tests;
 mod text;
 
-pub use fault::CellError;
-pub use fault::CellFault;
+pub use fault::{CellError, CellFault};
 pub use read::read_cell;

@@ -93,7 +93,9 @@ impl<'a> Line<'a> {
     pub(crate) fn is_heading(&self) -> bool
         ensures { result ≡ is_heading self.now.text.now }
     {
-        is_same_word(self.word(0), b"magcell") && is_same_word(self.word(1), b"1") && self.count() == 2
+        is_same_word(self.word(0), b"magcell")
+            && is_same_word(self.word(1), b"1")
+            && self.count() == 2
     }
 
     #[tactic(auto, unfolding(crate::specs::Lines::is_metric_line))]
@@ -107,7 +109,9 @@ impl<'a> Line<'a> {
     pub(crate) fn is_atom(&self) -> bool
         ensures { result ≡ is_atom_line self.now.text.now }
     {
-        is_same_word(self.word(0), b"atom") && (self.count() == 5 || self.count() == 8) && is_name(self.word(1))
+        is_same_word(self.word(0), b"atom")
+            && (self.count() == 5 || self.count() == 8)
+            && is_name(self.word(1))
     }
 
     #[tactic(auto, unfolding(crate::specs::Lines::is_end_line))]

@@ -227,11 +227,7 @@ fn with_sign(negative: bool, size: u128) -> i128
     ensures size { AtMost (10 ^ 27) result }
 {
     let number = size as i128;
-    if negative {
-        -number
-    } else {
-        number
-    }
+    if negative { -number } else { number }
 }
 
 /// d times the fraction; d is a multiple of the denominator.

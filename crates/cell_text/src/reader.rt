@@ -11,7 +11,7 @@ use crate::atom::{are_moments_in_range, atom_of, is_moment_in_range, same_place}
 use crate::atom_line::AtomLine;
 use crate::cell::cell_of;
 use crate::fault::{CellFault, LineError};
-use crate::line::{has_bad_byte, Line};
+use crate::line::{Line, has_bad_byte};
 use crate::metric::metric_of;
 use crate::number::grown;
 use crate::scaled_metric::ScaledMetric;

@@ -1,4 +1,4 @@
-use Rattle.std.proofs.Common.{◌≡◌, List, ℕ, true, sym, ap, subst, ◌∙◌}
+use Rattle.std.proofs.Common.{◌≡◌, List, ℕ, true, sym, subst, ◌∙◌}
 use Rattle.crystal.specs.Names.{is_name}
 use Rattle.cell_text.proofs.Judging.{atom_named}
 use Rattle.cell_text.proofs.atom.atom_of.Goals as goal

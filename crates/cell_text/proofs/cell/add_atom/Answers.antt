@@ -2,7 +2,6 @@ use Rattle.std.proofs.Common.{◌≡◌, ℕ, List, sym, ap, subst, ◌∙◌}
 use Rattle.crystal_spec.specs.Crystals.{Structure}
 use Rattle.crystal_spec.specs.Operations.{IsWithinCell}
 use Rattle.crystal.specs.Views.{triple_of}
-use Rattle.crystal.specs.Cells.{IsSiteOf}
 use Rattle.cell_text.specs.CellFile.{number_of, with_name}
 use Rattle.cell_text.proofs.Fillings.{is_small, is_named}
 use Rattle.cell_text.proofs.cell.add_atom.Goals as goal

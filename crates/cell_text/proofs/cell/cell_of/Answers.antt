@@ -1,7 +1,6 @@
-use Rattle.std.proofs.Common.{◌≡◌, ◌≤◌, ◌<◌, ◌∷◌, [], ℕ, suc, List, map, take, drop, length, sym, ap, subst, ◌∙◌, arith}
+use Rattle.std.proofs.Common.{◌≤◌, ◌∷◌, [], ℕ, suc, List, map, take, drop, length, sym, ap, subst, ◌∙◌, arith}
 use Rattle.std.proofs.lemmas.List.{length-map}
 use Rattle.crystal_spec.specs.Crystals.{Structure}
-use Rattle.cell_text.specs.Entries.{AtomLine}
 use Rattle.cell_text.specs.CellFile.{names_of}
 use Rattle.cell_text.specs.Filling.{filled}
 use Rattle.cell_text.specs.Views.{atom_view}

@@ -10,4 +10,4 @@ abbrev pub invariant-loop-atom : goal.invariant-loop-atom
 invariant-loop-atom l = record {
   cell : l.cell ≡ filled (metric_view l.metric) l.n l.k (map atom_view l.atoms) (map atom_view (take (suc l.atom-index) l.atoms));
   names : map (λ v. v.items) l.names.keys ≡ names_of (map atom_view (take (suc l.atom-index) l.atoms));
-  }
+}

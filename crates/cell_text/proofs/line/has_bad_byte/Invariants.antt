@@ -1,4 +1,4 @@
-use Rattle.std.proofs.Common.{◌≡◌, ℕ, take, false}
+use Rattle.std.proofs.Common.{◌≡◌, take, false}
 use Rattle.std.specs.List.{list_any}
 use Rattle.cell_text.specs.Lines.{is_bad_byte}
 use Rattle.cell_text.proofs.line.has_bad_byte.Given as goal

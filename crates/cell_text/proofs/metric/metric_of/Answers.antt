@@ -1,4 +1,4 @@
-use Rattle.std.proofs.Common.{◌≡◌, false, true, sym, ◌∙◌}
+use Rattle.std.proofs.Common.{false, true, sym, ◌∙◌}
 use Rattle.cell_text.proofs.MetricLines.{past_scale, within, tensor_is}
 use Rattle.cell_text.specs.Readers.{fractions}
 use Rattle.cell_text.proofs.metric.metric_of.Goals as goal

@@ -1,4 +1,4 @@
-use Rattle.std.proofs.Common.{◌≡◌, List, ℕ, ap, map, ◌∙◌, Vec, Global}
+use Rattle.std.proofs.Common.{ℕ, ap, map, ◌∙◌, Vec, Global}
 use Rattle.cell_text.specs.Lines.{same_word}
 use Rattle.cell_text.proofs.FirstUse.{names_map, position_map}
 use Rattle.cell_text.proofs.names.number_name.Goals as goal

@@ -1,5 +1,4 @@
-use Rattle.std.proofs.Common.{◌≡◌, arith}
-use Rattle.cell_text.proofs.Multiples.{grown_is, past_one, past_two, past_three}
+use Rattle.cell_text.proofs.Multiples.{grown_is, past_one, past_two}
 use Rattle.cell_text.proofs.number.grown.Goals as goal
 
 pub returns : goal.returns

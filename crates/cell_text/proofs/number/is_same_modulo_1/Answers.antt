@@ -1,7 +1,4 @@
-use Rattle.std.proofs.Common.{◌≡◌, ℕ, zero, suc, sym, Bool, true, false, ◌*◌, ◌%◌, arith, ap, refl, ◌∙◌, eqb}
-use Rattle.std.specs.Prelude.{pos, neg_ℤ, ◌*ℤ◌, ◌-ℤ◌, unsigned_abs}
-use Rattle.std.proofs.Math.IntN.{negsuc-*ℤ-pos}
-use Rattle.cell_text.specs.Numbers.{signed}
+use Rattle.std.proofs.Common.{ℕ, ◌*◌, ◌%◌, ap, refl, ◌∙◌, eqb}
 use Rattle.cell_text.proofs.Signs.{signed-mul}
 use Rattle.cell_text.proofs.number.is_same_modulo_1.Goals as goal
 

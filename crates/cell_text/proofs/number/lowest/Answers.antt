@@ -1,4 +1,4 @@
-use Rattle.std.proofs.Common.{◌<◌, arith, sym}
+use Rattle.std.proofs.Common.{arith}
 use Rattle.std.proofs.Math.Nat.{div-le_self}
 use Rattle.numbers.proofs.GcdLemmas.{gcd-positive}
 use Rattle.cell_text.proofs.Multiples.{parts-positive}

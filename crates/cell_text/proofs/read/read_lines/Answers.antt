@@ -15,7 +15,7 @@ loop-rest-init c = record {
   state = c.new-reader.ensures;
   number = omega arith;
   short = omega arith;
-  }
+}
 
 pub loop-rest-preserved : goal.loop-rest-preserved
 loop-rest-preserved c =

@@ -14,7 +14,7 @@ invariant-loop-rest l = record {
   state : l.reader ≡ state_with (length before) (contents before);
   number : l.number ≡ length before + 1;
   short : length before + length l.rest ≤ length l.text;
-  }
+}
 
 abbrev pub decreases-loop-rest : goal.decreases-loop-rest
 decreases-loop-rest l = length l.rest

@@ -1,4 +1,4 @@
-use Rattle.std.proofs.Common.{◌≡◌, sym, ◌∙◌, arith, refl, Some, None, ap, List, [], ◌∷◌, map, length, length-append}
+use Rattle.std.proofs.Common.{sym, ◌∙◌, arith, ap, List, [], ◌∷◌, map, length, length-append}
 use Rattle.std.proofs.lemmas.List.{length-map}
 use Rattle.cell_text.specs.declared.atom_line.AtomLine.{AtomLine}
 use Rattle.cell_text.specs.Views.{atom_view, State}
@@ -34,7 +34,7 @@ invariant_of-self-2 c = record {
   positive = c.self.invariant.positive;
   ends = λ h. ((c.self.invariant.ends h).0, omega (arith, ap length c.in-Ok-push.ensures.items, length-append c.self.inside.atoms.items (c.args.atom ∷ [])));
   few = omega (arith, ap length c.in-Ok-push.ensures.items, length-append c.self.inside.atoms.items (c.args.atom ∷ []), c.requires, ap (λ (s : State). length s.held.atoms) c.self.view_is, length-map c.self.inside.atoms.items atom_view);
-  }
+}
 
 pub returns-clause-judged : goal.returns-clause-judged
 returns-clause-judged c =

@@ -1,9 +1,7 @@
-use Rattle.std.proofs.Common.{◌≡◌, ◌+◌, List, ℕ, sym, ◌∙◌, ap, subst, Option, None, arith, refl}
-use Rattle.std.specs.Prelude.{OnOk}
-use Rattle.cell_text.specs.Entries.{Contents}
-use Rattle.cell_text.specs.Lines.{is_skipped, is_heading}
+use Rattle.std.proofs.Common.{◌+◌, sym, ◌∙◌, ap, arith}
+use Rattle.cell_text.specs.Lines.{is_skipped}
 use Rattle.cell_text.specs.Rules.{heading_fault, later_fault}
-use Rattle.cell_text.specs.Views.{State, Judges, with_line}
+use Rattle.cell_text.specs.Views.{State, with_line}
 use Rattle.cell_text.proofs.Judging.{heading-other, skipped-other, with-other, heading-passed}
 use Rattle.cell_text.proofs.Stepping.{judged-first, judged-skipped, judged-later, refuses_same, next_state, last_state}
 use Rattle.cell_text.proofs.reader.Reader.read.Goals as goal
