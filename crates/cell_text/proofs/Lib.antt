@@ -1,5 +1,15 @@
+mod KnownValues
 pub mod Cutting
-pub mod Digits
+pub mod Multiples
 pub mod Minors
-pub mod Forms
-pub mod KnownValues
+pub mod Signs
+pub mod Digits
+pub mod Atoms
+pub mod Placing
+pub mod Judging
+pub mod Stepping
+pub mod MetricLines
+pub mod FirstUse
+pub mod Apart
+pub mod NameLemmas
+pub mod Fillings

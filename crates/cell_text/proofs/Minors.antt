@@ -1,5 +1,11 @@
 -- The sizes in the determinant of a metric tensor.
-use Rattle.std.proofs.Common.{◌*◌, ◌^◌, ℤ}
+use Rattle.std.proofs.Common.{◌≡◌, zero, suc, ◌*◌, ◌^◌, ℤ, true, arith}
+use Rattle.std.specs.Prelude.{pos, negsuc, int_lt, ◌<ℤ◌}
+use Rattle.std.proofs.lemmas.Bool.{and_parts}
+use Rattle.std.proofs.lemmas.Int.{ints}
+use Rattle.crystal_spec.specs.Matrices.{determinant}
+use Rattle.crystal_spec.specs.Crystals.{IsPositive}
+use Rattle.cell_text.specs.Entries.{is_positive}
 use Rattle.ring.specs.Ring.{int_ops}
 use Rattle.ring.specs.Size.{AtMost}
 use Rattle.ring.proofs.Sizes.{at_most_mul, at_most_add, at_most_neg, weaken}
@@ -37,3 +43,17 @@ determinant_fits g h =
         three = weaken (10 ^ 36) (at_most_add (at_most_add one (at_most_neg two)) three) tt;
       };
     }
+
+-- ---- positive, as a test
+
+above : (z : ℤ) → int_lt (pos 0) z ≡ true → pos 0 <ℤ z
+above (pos zero) e = absurd cc
+above (pos (suc n)) e = omega (arith, ints)
+above (negsuc n) e = absurd cc
+
+pub positive_is : (g : Matrix) → is_positive g ≡ true → IsPositive g
+unfolding is_positive
+positive_is g e =
+    let p = and_parts _ (int_lt (pos 0) (determinant g)) e in
+    let q = and_parts (int_lt (pos 0) g.a11) _ p.0 in
+    record { first = above _ q.0; second = above _ q.1; third = above _ p.1 }

@@ -1,4 +1,9 @@
 pub mod Text
 pub mod Numbers
-pub mod SimpleForm
-pub mod Tests
+pub mod Lines
+pub mod Entries
+pub mod Rules
+pub mod CellFile
+pub mod Filling
+pub mod Views
+pub mod Readers

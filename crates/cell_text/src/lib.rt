@@ -1,20 +1,30 @@
-//! The text of a cell: reads the simple form of a cell file.
+//! The text of a cell: reads the cell file `magcell 1`.
 //!
-//! The simple form is a cell of one atom at the origin, in four lines: `magcell 1`, the metric tensor, the atom with its
-//! moment, and `end`. Numbers are integers, and the units of metric tensor, positions and moments are all 1.
+//! A cell file has a first line `magcell 1`, then in any order one metric line and 1 to 512 atom lines, then a line `end`.
+//! Numbers are fractions; positions are in units of the axes and taken modulo 1, moments along the axes. The least common
+//! denominators of the metric tensor, of all positions and of all moments are the units of the cell.
 //!
-//! Definitions: `specs/SimpleForm` (what the text is, and the cell that it spells), `specs/Text` (lines and words) and
-//! `specs/Numbers` (number words). The format is our own.
+//! Definitions: `specs/Text` (lines and words), `specs/Numbers` (number words), `specs/Lines` (the forms of a line),
+//! `specs/Entries` (what a line says), `specs/Rules` (the first line that breaks a rule) and `specs/CellFile` (the cell
+//! that a text spells). The format is our own.
 #![tactic(auto)]
 
+mod atom;
 mod atom_line;
-mod error;
-mod metric_line;
+mod cell;
+mod fault;
+mod fraction;
+mod line;
+mod metric;
+mod names;
 mod number;
-mod pieces;
 mod read;
+mod reader;
+mod scaled_metric;
+mod site;
 #[cfg(test)]
 mod tests;
+mod text;
 
-pub use error::CellError;
+pub use fault::{CellError, CellFault};
 pub use read::read_cell;

@@ -1,22 +1,28 @@
-ghost use Rattle.std.specs.Prelude.{◌≡◌, ◌≤◌, ◌<◌, ◌^◌, ℤ, pos, length, MatchOption, true, false};
+ghost use Rattle.std.specs.Prelude.{◌≡◌, ℕ, ◌<◌, ◌≤◌, ◌^◌, length, MatchOption, MatchResult, Some, None, true, false, ◌&&◌, ◌||◌, ◌*◌, ◌/◌, nat_lt, [], unsigned_abs, ◌-ℤ◌};
 ghost use Rattle.ring.specs.Size.{AtMost};
-ghost use Rattle.crystal.specs.Bounds.{CoordinatesAtMost};
-ghost use Rattle.cell_text.specs.Numbers.{is_digit, is_digits, decimal, is_negative, without_sign, is_number, number_value};
-ghost use Rattle.cell_text.specs.Tests.{are_numbers, values_at};
+ghost use Rattle.cell_text.specs.Numbers.{is_digit, is_digits, decimal, is_negative, without_sign, before_slash, after_slash, lowest, number_fault, number_value, scaled, signed, is_same_modulo_1};
+ghost use Rattle.numbers.specs.Gcd.{gcd, lcm};
+ghost use Rattle.cell_text.specs.Entries.{is_billion};
+ghost use Rattle.cell_text.specs.Views.{fraction_of, Grown, IsMultiple};
 
-use crate::pieces::Pieces;
-use exact_num::Int;
-use matrix3::Vec3;
+use crate::fault::CellFault;
+use crate::fraction::Fraction;
+use exact_num::{gcd, lcm_within};
 
-/// The integer as an exact number.
-pub fn integer(value: i128) -> Int
-    requires { AtMost (10 ^ 9) value }
-    ensures { result ≡ value }
+/// The greatest common divisor.
+fn common_divisor(a: u128, b: u128) -> u128
+    ensures { result ≡ gcd a b }
 {
-    match Int::new(value) {
-        Some(number) => number,
-        None => unreachable!(),
-    }
+    gcd(a, b)
+}
+
+/// The least common multiple, where it is at most the bound.
+fn common_multiple(a: u128, b: u128, bound: u128) -> Option<u128>
+    requires a { 0 < a }
+    requires b { 0 < b }
+    ensures { MatchOption result (bound < lcm a b) (λ m. IsMultiple a b m × (m ≤ bound)) }
+{
+    lcm_within(a, b, bound)
 }
 
 fn is_digit(b: u8) -> bool
@@ -25,15 +31,11 @@ fn is_digit(b: u8) -> bool
     b'0' <= b && b <= b'9'
 }
 
-/// Whether the part is one to nine digits.
-#[tactic(auto, unfolding(crate::specs::Numbers::is_digits))]
+/// Whether there are one or more digits, and nothing else.
 fn is_digits(part: &[u8]) -> bool
     ensures { result ≡ is_digits part.now }
 {
     if part.is_empty() {
-        return false;
-    }
-    if part.len() > 9 {
         return false;
     }
     for b in part {
@@ -44,15 +46,16 @@ fn is_digits(part: &[u8]) -> bool
     true
 }
 
-/// The digits as a number to base ten.
-fn decimal(digits: &[u8]) -> u32
-    requires { is_digits digits.now ≡ true }
+/// The value of at most 18 digits.
+fn decimal(digits: &[u8]) -> u128
+    requires digits { is_digits digits.now ≡ true }
+    requires short { length digits.now ≤ 18 }
     ensures value { result ≡ decimal digits.now }
-    ensures bound { result < 10 ^ 9 }
+    ensures bound { result < 10 ^ 18 }
 {
-    let mut value: u32 = 0;
+    let mut value: u128 = 0;
     for b in digits {
-        value = 10 * value + (*b - b'0') as u32;
+        value = 10 * value + (*b - b'0') as u128;
     }
     value
 }
@@ -75,31 +78,164 @@ fn without_sign(word: &[u8]) -> &[u8]
     }
 }
 
-/// The number that the word spells, of size below 10^9.
-#[tactic(auto, unfolding(crate::specs::Numbers::is_number, crate::specs::Numbers::number_value))]
-fn number(word: &[u8]) -> Option<Int>
-    ensures { MatchOption result (is_number word.now ≡ false) (λ z. (is_number word.now ≡ true) × (z ≡ number_value word.now) × AtMost (10 ^ 9) z) }
+/// What stands before and behind the first `/`; where there is none, the word and `1`.
+fn halves(word: &[u8]) -> (&[u8], &[u8])
+    ensures before { result.0.now ≡ before_slash word.now }
+    ensures after { result.1.now ≡ after_slash word.now }
 {
-    let digits = without_sign(word);
-    if !is_digits(digits) {
-        return None;
+    for (i, b) in word.iter().enumerate() {
+        if *b == b'/' {
+            return (&word[..i], &word[i + 1..]);
+        }
     }
-    let size = decimal(digits) as i128;
-    if is_negative(word) {
-        Some(integer(-size))
-    } else {
-        Some(integer(size))
+    (word, b"1")
+}
+
+/// a / b in lowest terms.
+fn lowest(negative: bool, a: u128, b: u128) -> Fraction
+    requires num { a < 10 ^ 18 }
+    requires den { b < 10 ^ 18 }
+    requires positive { 0 < b }
+    ensures { fraction_of result ≡ lowest negative a b }
+{
+    let common = common_divisor(a, b);
+    Fraction {
+        negative,
+        num: a / common,
+        den: b / common,
     }
 }
 
-/// The three numbers that the words from number `from` on spell, each of size below 10^9.
-#[tactic(auto, unfolding(crate::specs::Tests::are_numbers, crate::specs::Tests::values_at))]
-pub fn triple(words: &Pieces, from: usize) -> Option<Vec3<Int>>
-    requires { from < 10 }
-    ensures { MatchOption result (are_numbers words.now from ≡ false) (λ v. (are_numbers words.now from ≡ true) × (v ≡ values_at words.now from) × CoordinatesAtMost (10 ^ 9) v) }
+fn are_digits(over: &[u8], under: &[u8]) -> bool
+    ensures { result ≡ (is_digits over.now && is_digits under.now) }
 {
-    let x = number(words.at(from))?;
-    let y = number(words.at(from + 1))?;
-    let z = number(words.at(from + 2))?;
-    Some(Vec3 { x, y, z })
+    if !is_digits(over) {
+        return false;
+    }
+    is_digits(under)
+}
+
+fn are_long(over: &[u8], under: &[u8]) -> bool
+    ensures { result ≡ (nat_lt 18 (length over.now) || nat_lt 18 (length under.now)) }
+{
+    if over.len() > 18 {
+        return true;
+    }
+    under.len() > 18
+}
+
+/// The number that a word spells.
+#[tactic(auto, unfolding(crate::specs::Numbers::number_fault, crate::specs::Numbers::number_value))]
+pub(crate) fn number(word: &[u8]) -> Result<Fraction, CellFault>
+    ensures { MatchResult result (λ f. (number_fault word.now ≡ None) × (fraction_of f ≡ number_value word.now)) (λ e. number_fault word.now ≡ Some e) }
+{
+    let negative = is_negative(word);
+    let (over, under) = halves(without_sign(word));
+    if !are_digits(over, under) {
+        return Err(CellFault::BadNumber);
+    }
+    if are_long(over, under) {
+        return Err(CellFault::NumberRange);
+    }
+    let den = decimal(under);
+    if den == 0 {
+        return Err(CellFault::ZeroDenominator);
+    }
+    Ok(lowest(negative, decimal(over), den))
+}
+
+/// The number 0.
+#[tactic(auto, unfolding(crate::specs::Numbers::number_value))]
+pub(crate) fn zero() -> Fraction
+    ensures { fraction_of result ≡ number_value [] }
+{
+    Fraction {
+        negative: false,
+        num: 0,
+        den: 1,
+    }
+}
+
+/// The least common multiple of a number and three denominators, where it is at most the bound.
+pub(crate) fn grown(d: u128, x: &Fraction, y: &Fraction, z: &Fraction, bound: u128) -> Option<u128>
+    requires { 0 < d }
+    ensures { MatchOption result (bound < lcm (lcm (lcm d x.now.den) y.now.den) z.now.den) (λ m. Grown d x.now.den y.now.den z.now.den m × (m ≤ bound)) }
+{
+    let x = *x;
+    let y = *y;
+    let z = *z;
+    let Some(one) = common_multiple(d, x.den, bound) else {
+        return None;
+    };
+    let Some(two) = common_multiple(one, y.den, bound) else {
+        return None;
+    };
+    let Some(all) = common_multiple(two, z.den, bound) else {
+        return None;
+    };
+    Some(all)
+}
+
+/// Whether d times the fraction is at most 10^9 in size; d is a multiple of the denominator.
+pub(crate) fn is_billion(f: &Fraction, d: u128) -> bool
+    requires { d ≤ 1000000000 }
+    ensures { result ≡ is_billion (scaled d (fraction_of f.now)) }
+{
+    let f = *f;
+    f.num * (d / f.den) <= 1_000_000_000
+}
+
+/// The size of the difference of two signed numbers.
+fn apart(negative: bool, a: u128, other: bool, b: u128) -> u128
+    requires a { a ≤ 10 ^ 36 }
+    requires b { b ≤ 10 ^ 36 }
+    ensures { result ≡ unsigned_abs (signed negative a -ℤ signed other b) }
+{
+    if negative != other {
+        return a + b;
+    }
+    if a < b {
+        return b - a;
+    }
+    a - b
+}
+
+/// Whether the difference of the two is whole.
+pub(crate) fn is_same_modulo_1(f: &Fraction, g: &Fraction) -> bool
+    ensures { result ≡ is_same_modulo_1 (fraction_of f.now) (fraction_of g.now) }
+{
+    let f = *f;
+    let g = *g;
+    let apart = apart(f.negative, f.num * g.den, g.negative, g.num * f.den);
+    apart % (f.den * g.den) == 0
+}
+
+/// The size of d times the fraction.
+fn size_of(f: &Fraction, d: u128) -> u128
+    requires { d ≤ 1000000000 }
+    ensures value { result ≡ f.now.num * (d / f.now.den) }
+    ensures size { result ≤ 10 ^ 27 }
+{
+    let f = *f;
+    f.num * (d / f.den)
+}
+
+/// The number of this size and sign.
+fn with_sign(negative: bool, size: u128) -> i128
+    requires { size ≤ 10 ^ 27 }
+    ensures value { result ≡ signed negative size }
+    ensures size { AtMost (10 ^ 27) result }
+{
+    let number = size as i128;
+    if negative { -number } else { number }
+}
+
+/// d times the fraction; d is a multiple of the denominator.
+pub(crate) fn times(f: &Fraction, d: u128) -> i128
+    requires { d ≤ 1000000000 }
+    ensures value { result ≡ scaled d (fraction_of f.now) }
+    ensures size { AtMost (10 ^ 27) result }
+{
+    let size = size_of(f, d);
+    with_sign(f.negative, size)
 }

@@ -1,62 +1,57 @@
-ghost use Rattle.std.specs.Prelude.{◌≡◌, ◌↔◌, IfOk, Err, IsTrue};
-ghost use Rattle.crystal_spec.specs.Crystals.{Structure};
-ghost use Rattle.cell_text.specs.Tests.{HasFrame};
-ghost use Rattle.cell_text.specs.SimpleForm.{SpellsSimple};
+ghost use Rattle.std.specs.Prelude.{◌≡◌, ◌<◌, ◌^◌, ◌+◌, length, MatchResult, IfOk, IfErr, None, true};
+ghost use Rattle.cell_text.specs.Text.{lines};
+ghost use Rattle.cell_text.specs.Entries.{contents};
+ghost use Rattle.cell_text.specs.Rules.{cell_fault, Tells};
+ghost use Rattle.cell_text.specs.CellFile.{Spells};
 
-use crate::atom_line::atom_of;
-use crate::error::CellError;
-use crate::metric_line::metric_of;
-use crate::number::integer;
-use crate::pieces::{Pieces, is_same};
-use crystal::{Atom, Cell};
+use crate::fault::{CellError, CellFault, LineError};
+use crate::reader::Reader;
+use crate::text::first_line;
+use crystal::Cell;
 use io_edge::Bytes;
 use std::alloc::Global;
 
-/// Whether these are five pieces: `magcell 1`, two lines, `end` and nothing.
-fn has_frame(lines: &Pieces) -> bool
-    ensures { IsTrue result ↔ HasFrame lines.now }
+/// The lines of the text, unless one breaks a rule.
+fn read_lines(alloc: Global, text: &[u8]) -> Result<Reader, CellError>
+    requires { length text.now + 1 < 2 ^ 32 }
+    ensures { MatchResult result (λ r. (cell_fault text.now ≡ None) × (r.held ≡ contents (lines text.now)) × (r.held.ended ≡ true)) (λ e. Tells (cell_fault text.now) e) }
 {
-    if lines.count() != 5 {
-        return false;
+    let mut reader = Reader::new(alloc);
+    let mut rest = text;
+    let mut number: u32 = 1;
+    while !rest.is_empty() {
+        let (line, after) = first_line(rest);
+        match reader.read(alloc, line) {
+            Ok(()) => {}
+            Err(LineError::Memory) => return Err(CellError::Memory),
+            Err(LineError::Fault(fault)) => return Err(CellError::Refused(number, fault)),
+        }
+        rest = after;
+        number += 1;
     }
-    if !is_same(lines.at(0), b"magcell 1") {
-        return false;
+    if number == 1 {
+        return Err(CellError::Refused(1, CellFault::NotMagcell));
     }
-    is_same(lines.at(3), b"end") && lines.at(4).is_empty()
+    if !reader.is_ended() {
+        return Err(CellError::Refused(number, CellFault::NoEnd));
+    }
+    Ok(reader)
 }
 
-/// The cell that the text spells in the simple form: one atom, at the origin.
+/// The cell that the text of a cell file `magcell 1` spells.
 ///
-/// The units of its metric tensor, positions and moments are all 1. `NotSimple` comes exactly where the text spells no
-/// such cell, and `Memory` for want of memory.
+/// Asks that the text has fewer than 2^32 - 1 bytes. `Refused` names the first line that breaks a rule, counted from 1, and
+/// the first rule that it breaks; `Memory` comes for want of memory alone.
 pub fn read_cell(alloc: Global, text: &Bytes) -> Result<Cell, CellError>
-    ensures value { IfOk result (SpellsSimple text.now) }
-    ensures not_simple { result ≡ Err CellError.NotSimple → (c : Structure) → SpellsSimple text.now c → ⊥ }
+    requires { length text.now + 1 < 2 ^ 32 }
+    ensures value { IfOk result (Spells text.now) }
+    ensures refused { IfErr result (Tells (cell_fault text.now)) }
 {
-    let Ok(lines) = Pieces::cut(alloc, text.as_slice(), b'\n') else {
-        return Err(CellError::Memory);
+    let reader = match read_lines(alloc, text.as_slice()) {
+        Ok(reader) => reader,
+        Err(error) => return Err(error),
     };
-    if !has_frame(&lines) {
-        return Err(CellError::NotSimple);
-    }
-    let Ok(metric_words) = Pieces::cut(alloc, lines.at(1), b' ') else {
-        return Err(CellError::Memory);
-    };
-    let Ok(atom_words) = Pieces::cut(alloc, lines.at(2), b' ') else {
-        return Err(CellError::Memory);
-    };
-    let Some(metric) = metric_of(&metric_words) else {
-        return Err(CellError::NotSimple);
-    };
-    let Some((name, moment)) = atom_of(&atom_words) else {
-        return Err(CellError::NotSimple);
-    };
-    let atom = Atom {
-        species: 0,
-        place: [0, 0, 0],
-        moment,
-    };
-    let Ok(cell) = Cell::build(alloc, integer(1), metric, 1, 1, name, atom) else {
+    let Ok(cell) = reader.finish(alloc) else {
         return Err(CellError::Memory);
     };
     Ok(cell)

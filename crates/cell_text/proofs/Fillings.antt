@@ -1,0 +1,141 @@
+-- A cell while its atoms are added.
+use Rattle.std.proofs.Common.{◌≡◌, ℕ, zero, suc, ◌+◌, ◌<◌, ◌≤◌, List, [], ◌∷◌, ◌++◌, length, map, take, drop, get_or, refl, sym, ap, subst, ◌∙◌, arith, add-one, length-append, length-drop, ◌-◌}
+use Rattle.std.specs.Prelude.{pos}
+use Rattle.std.proofs.lemmas.List.{map-append, length-map, take_rest}
+use Rattle.crystal_spec.specs.Increasing.{IsMember}
+use Rattle.crystal_spec.specs.Crystals.{Site, Structure}
+use Rattle.cell_text.specs.declared.atom_line.AtomLine.{AtomLine as CodeAtom}
+use Rattle.crystal.specs.Occupants.{NoneAt}
+use Rattle.cell_text.specs.Numbers.{common_denominator}
+use Rattle.cell_text.specs.Entries.{AtomLine, ScaledMetric, positions, moments}
+use Rattle.cell_text.specs.CellFile.{with_name, names_of, number_of, site_of, position_of, moment_of, cell_with}
+use Rattle.cell_text.specs.Filling.{with_site, filled, whole_of}
+use Rattle.cell_text.specs.Views.{atom_view, AreApart}
+use Rattle.cell_text.proofs.Apart.{AllDivide, all_divide, none_before}
+use Rattle.cell_text.proofs.NameLemmas.{old_name, new_name, new_member, number_below, with_most, names-more, number-final, names_at_most}
+
+-- ---- one name
+
+abbrev renamed : Structure → List (List ℕ) → Structure
+renamed s names = record s { names = names }
+
+pub kept_names : (s : Structure) (w : List ℕ) (i : ℕ) → i ≡ number_of s.names w → i < length s.names → s ≡ record s { names = with_name s.names w }
+kept_names s w i e h = ap (renamed s) (sym (old_name s.names w (subst (λ (j : ℕ). j < length s.names) e h)))
+
+past : (names : List (List ℕ)) (w : List ℕ) (i : ℕ) → i ≡ number_of names w → length names ≤ i → number_of names w < length names → ⊥
+past names w i e h k = absurd (omega (arith, e, h, k))
+
+pub more_names : (s new : Structure) (v w : List ℕ) (i : ℕ) → i ≡ number_of s.names w → length s.names ≤ i → v ≡ w → new ≡ record s { names = s.names ++ v ∷ [] } → new ≡ record s { names = with_name s.names w }
+more_names s new v w i e h same is =
+    is ∙ ap (renamed s) (ap (λ (u : List ℕ). s.names ++ u ∷ []) same ∙ sym (new_name s.names w (past s.names w i e h)))
+
+pub is_new : (names : List (List ℕ)) (v w : List ℕ) (i : ℕ) → i ≡ number_of names w → length names ≤ i → v ≡ w → IsMember v names → ⊥
+is_new names v w i e h same m = new_member names w (past names w i e h) (subst (λ (u : List ℕ). IsMember u names) same m)
+
+-- ---- the atoms so far
+
+pub split_at : (xs : List CodeAtom) (i : ℕ) (x : CodeAtom) → i < length xs → get_or xs i x ≡ x → map atom_view xs ≡ map atom_view (take i xs) ++ atom_view x ∷ map atom_view (drop (suc i) xs)
+split_at [] i x h e = absurd (omega arith)
+split_at (y ∷ ys) zero x h e = ap (λ (z : CodeAtom). atom_view z ∷ map atom_view ys) e
+split_at (y ∷ ys) (suc i) x h e = ap (λ (zs : List AtomLine). atom_view y ∷ zs) (split_at ys i x (omega arith) e)
+
+take_suc : (xs : List CodeAtom) (i : ℕ) (x : CodeAtom) → i < length xs → get_or xs i x ≡ x → map atom_view (take (suc i) xs) ≡ map atom_view (take i xs) ++ atom_view x ∷ []
+take_suc [] i x h e = absurd (omega arith)
+take_suc (y ∷ ys) zero x h e = ap (λ (z : CodeAtom). atom_view z ∷ []) e
+take_suc (y ∷ ys) (suc i) x h e = ap (λ (zs : List AtomLine). atom_view y ∷ zs) (take_suc ys i x (omega arith) e)
+
+-- one atom more: its species has the number that it has in the whole cell
+site-final : (n k : ℕ) (held : List AtomLine) (b : AtomLine) (later : List AtomLine) → site_of (names_of held) n k b ≡ site_of (names_of (held ++ b ∷ later)) n k b
+site-final n k held b later = ap (λ (i : ℕ). at i) (sym (number-final held b later))
+  where
+    at : ℕ → Site
+    at i = record { species = i; position = position_of n b; moment = moment_of k b }
+
+abbrev made : ScaledMetric → ℕ → ℕ → List (List ℕ) → List Site → Structure
+made metric n k names sites = record { names = names; scale = pos metric.scale; metric = metric.entries; n = n; k = k; sites = sites }
+
+with_two : (metric : ScaledMetric) (n k : ℕ) (names ns : List (List ℕ)) (sites ss : List Site) → names ≡ ns → sites ≡ ss → made metric n k names sites ≡ made metric n k ns ss
+with_two metric n k names ns sites ss e f = ap (λ (xs : List (List ℕ)). made metric n k xs sites) e ∙ ap (made metric n k ns) f
+
+pub filled_more : (metric : ScaledMetric) (n k : ℕ) (all held : List AtomLine) (b : AtomLine) (later : List AtomLine) → all ≡ held ++ b ∷ later → with_site (filled metric n k all held) b ≡ filled metric n k all (held ++ b ∷ [])
+filled_more metric n k all held b later e =
+    let names = sym (names-more held b) in
+    let final = site-final n k held b later ∙ ap (λ (xs : List AtomLine). site_of (names_of xs) n k b) (sym e) in
+    let sites = ap (λ (s : Site). map (site_of (names_of all) n k) held ++ s ∷ []) final ∙ sym (map-append (site_of (names_of all) n k) held (b ∷ [])) in
+    with_two metric n k _ _ _ _ names sites
+
+-- ---- the number of a species
+
+pub is_small : (names : List (List ℕ)) (w : List ℕ) (i : ℕ) → i ≡ number_of names w → length names < 512 → i < 65536
+is_small names w i e h = omega (arith, e, number_below names w, with_most names w, h)
+
+pub is_named : (names more : List (List ℕ)) (w : List ℕ) (i : ℕ) → i ≡ number_of names w → more ≡ with_name names w → i < length more
+is_named names more w i e f = omega (arith, e, number_below names w, ap length f)
+
+-- ---- the cell of some of the atoms
+
+-- what stands behind the first atom
+pub rest_at : (atoms : List CodeAtom) (i : ℕ) (x : CodeAtom) → i < length (take (length atoms - 1) (drop 1 atoms)) → x ≡ get_or (take (length atoms - 1) (drop 1 atoms)) i x → (suc i < length atoms) × (get_or atoms (suc i) x ≡ x)
+rest_at [] i x h e = absurd (omega arith)
+rest_at (a ∷ atoms) i x h e =
+    let rest : take (length (a ∷ atoms) - 1) (drop 1 (a ∷ atoms)) ≡ atoms = take_rest (a ∷ atoms) 1 in
+    let below : i < length atoms = subst (λ (xs : List CodeAtom). i < length xs) rest h in
+    (omega (arith, below), sym (subst (λ (xs : List CodeAtom). x ≡ get_or xs i x) rest e))
+
+pub first_at : (atoms : List CodeAtom) (x : CodeAtom) → 0 < length atoms → x ≡ get_or atoms 0 x → (map atom_view (take 1 atoms) ≡ atom_view x ∷ []) × (map atom_view atoms ≡ atom_view x ∷ map atom_view (drop 1 atoms))
+first_at [] x h e = absurd (omega arith)
+first_at (a ∷ atoms) x h e = (ap (λ (z : CodeAtom). atom_view z ∷ []) (sym e), ap (λ (z : CodeAtom). atom_view z ∷ map atom_view atoms) (sym e))
+
+pub next_at : (atoms : List CodeAtom) (i : ℕ) (x : CodeAtom) → (suc i < length atoms) × (get_or atoms (suc i) x ≡ x) → map atom_view (take (suc (i + 1)) atoms) ≡ map atom_view (take (suc i) atoms) ++ atom_view x ∷ []
+next_at atoms i x h = ap (λ (j : ℕ). map atom_view (take (suc j) atoms)) (add-one i) ∙ take_suc atoms (suc i) x h.0 h.1
+
+take_past : (xs : List CodeAtom) (n : ℕ) → length xs ≤ n → take n xs ≡ xs
+take_past [] zero h = refl
+take_past [] (suc n) h = refl
+take_past (x ∷ xs) zero h = absurd (omega arith)
+take_past (x ∷ xs) (suc n) h = ap (λ (ys : List CodeAtom). x ∷ ys) (take_past xs n (omega arith))
+
+pub all_taken : (atoms : List CodeAtom) (i : ℕ) → length (take (length atoms - 1) (drop 1 atoms)) ≤ i → map atom_view atoms ≡ map atom_view (take (suc i) atoms)
+all_taken atoms i h =
+    let rest : take (length atoms - 1) (drop 1 atoms) ≡ drop 1 atoms = take_rest atoms 1 in
+    ap (map atom_view) (sym (take_past atoms (suc i) (omega (arith, h, ap length rest, length-drop 1 atoms))))
+
+pub filled_first : (metric : ScaledMetric) (n k : ℕ) (all : List AtomLine) (b : AtomLine) (later : List AtomLine) → all ≡ b ∷ later → made metric n k (b.name ∷ []) (record { species = 0; position = position_of n b; moment = moment_of k b } ∷ []) ≡ filled metric n k all (b ∷ [])
+unfolding names_of
+filled_first metric n k all b later e =
+    let number : number_of (names_of all) b.name ≡ 0 = ap (λ (xs : List AtomLine). number_of (names_of xs) b.name) e ∙ number-final [] b later in
+    with_two metric n k _ _ _ _ refl (ap (λ (s : Site). s ∷ []) (ap at (sym number)))
+  where
+    at : ℕ → Site
+    at i = record { species = i; position = position_of n b; moment = moment_of k b }
+
+-- no atom so far is at the position of the next
+pub free_more : (metric : ScaledMetric) (n k : ℕ) (all held : List AtomLine) (b : AtomLine) (later : List AtomLine) (cell : Structure) → all ≡ held ++ b ∷ later → n ≡ common_denominator (positions all) → 1 ≤ n → AreApart all → cell ≡ filled metric n k all held → NoneAt (position_of cell.n b) cell.sites
+free_more metric n k all held b later cell e is some apart view =
+    let divide : AllDivide n all = subst (λ (m : ℕ). AllDivide m all) (sym is) (all_divide 1 all) in
+    subst (λ (s : Structure). NoneAt (position_of s.n b) s.sites) (sym view) (none_before (names_of all) n k held b later some (subst (AllDivide n) e divide) (subst AreApart e apart))
+
+pub fewer_sites : (metric : ScaledMetric) (n k : ℕ) (all held : List AtomLine) (b : AtomLine) (later : List AtomLine) (cell : Structure) → all ≡ held ++ b ∷ later → length all ≤ 512 → cell ≡ filled metric n k all held → length cell.sites < 512
+fewer_sites metric n k all held b later cell e few view =
+    omega (arith, ap (λ (s : Structure). length s.sites) view, length-map held (site_of (names_of all) n k), ap length e, length-append held (b ∷ later), few)
+
+pub fewer_names : (metric : ScaledMetric) (n k : ℕ) (all held : List AtomLine) (b : AtomLine) (later : List AtomLine) (cell : Structure) → all ≡ held ++ b ∷ later → length all ≤ 512 → cell ≡ filled metric n k all held → length cell.names < 512
+fewer_names metric n k all held b later cell e few view =
+    omega (arith, ap (λ (s : Structure). length s.names) view, names_at_most held, ap length e, length-append held (b ∷ later), few)
+
+pub filled_next : (metric : ScaledMetric) (n k : ℕ) (all held more : List AtomLine) (b : AtomLine) (later : List AtomLine) (cell new : Structure) → all ≡ held ++ b ∷ later → more ≡ held ++ b ∷ [] → cell ≡ filled metric n k all held → new ≡ with_site cell b → new ≡ filled metric n k all more
+filled_next metric n k all held more b later cell new e step view is =
+    is ∙ ap (λ (s : Structure). with_site s b) view ∙ filled_more metric n k all held b later e ∙ ap (filled metric n k all) (sym step)
+
+pub names_next : (metric : ScaledMetric) (n k : ℕ) (all held more : List AtomLine) (b : AtomLine) (cell : Structure) (names : List (List ℕ)) → more ≡ held ++ b ∷ [] → cell ≡ filled metric n k all held → names ≡ with_name cell.names b.name → names ≡ names_of more
+names_next metric n k all held more b cell names step view is =
+    is ∙ ap (λ (s : Structure). with_name s.names b.name) view ∙ sym (names-more held b) ∙ ap names_of (sym step)
+
+pub filled_all : (metric : ScaledMetric) (n k : ℕ) (all held : List AtomLine) (cell : Structure) → all ≡ held → n ≡ common_denominator (positions all) → k ≡ common_denominator (moments all) → cell ≡ filled metric n k all held → cell ≡ cell_with (whole_of metric all)
+unfolding cell_with
+filled_all metric n k all held cell e f g view =
+    view ∙ ap (filled metric n k all) (sym e) ∙ ap (λ (m : ℕ). filled metric m k all all) f ∙ ap (λ (m : ℕ). filled metric (common_denominator (positions all)) m all all) g
+
+pub first_name : (b : AtomLine) → b.name ∷ [] ≡ names_of (b ∷ [])
+unfolding names_of
+first_name b = refl

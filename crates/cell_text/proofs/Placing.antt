@@ -1,0 +1,86 @@
+-- One more atom for the reader.
+use Rattle.std.proofs.Common.{◌≡◌, ℕ, ◌<◌, ◌≤◌, Bool, true, false, [], ◌∷◌, ◌++◌, map, refl, sym, ap, subst, ◌∙◌, Option, Some, None}
+use Rattle.cell_text.specs.declared.atom_line.AtomLine.{AtomLine as CodeAtom}
+use Rattle.cell_text.specs.declared.fault.CellFault.{CellFault}
+use Rattle.cell_text.specs.declared.fault.CellFault.TheVariants.{PositionRange, MomentRange, SamePlace}
+use Rattle.cell_text.specs.declared.reader.Reader.TheInside.{Inside}
+use Rattle.std.proofs.Common.{List}
+use Rattle.std.specs.Prelude.{not, ◌+◌}
+use Rattle.std.specs.List.{list_all}
+use Rattle.std.proofs.lemmas.Bool.{and_parts}
+use Rattle.std.proofs.lemmas.List.{map-append}
+use Rattle.std.proofs.lemmas.List.Folds.{list_all-append}
+use Rattle.cell_text.specs.Numbers.{common_denominator, when, or_else}
+use Rattle.numbers.specs.Gcd.{lcm}
+use Rattle.cell_text.specs.Entries.{AtomLine, moments, positions, is_same_place}
+use Rattle.cell_text.specs.Rules.{same_place, same_place_from}
+use Rattle.cell_text.specs.Views.{atom_view, atom_faults, State, Grown, AreApart}
+use Rattle.cell_text.specs.Readers.{state_of, IsReader}
+use Rattle.cell_text.proofs.Atoms.{is_billion_by, positions_more, moments_more, positions_fit, positions_past, moments_are, moments_past, faults-position, faults-moment, faults-place}
+
+-- the reader's state, and an atom that fits with the positions so far
+pub range_held : (r : Inside) (s : State) (a : AtomLine) (k : ℕ) → state_of r ≡ s → (is_billion_by k (moments (map atom_view r.atoms.items ++ a ∷ [])) ≡ is_billion_by k (moments (s.held.atoms ++ a ∷ [])))
+range_held r s a k v = ap (λ (t : State). is_billion_by k (moments (t.held.atoms ++ a ∷ []))) v
+
+pub place-position : (r : Inside) (s : State) (a : CodeAtom) → IsReader r → state_of r ≡ s → 1000000 < lcm (lcm (lcm r.n a.x.den) a.y.den) a.z.den → atom_faults s.held (atom_view a) ≡ Some PositionRange
+place-position r s a h v over =
+    subst (λ (t : State). atom_faults t.held (atom_view a) ≡ Some PositionRange) v (faults-position (state_of r).held (atom_view a) (positions_past (map atom_view r.atoms.items) (atom_view a) r.n h.n_is over))
+
+-- after the positions fit
+pub record Fits (r : Inside) (a : CodeAtom) (n k : ℕ) : Type 0 where
+  pub n_is : Grown r.n a.x.den a.y.den a.z.den n
+  pub n_within : n ≤ 1000000
+  pub k_is : Grown r.k a.ma.den a.mb.den a.mc.den k
+  pub k_within : k ≤ 1000000
+
+pub place-moment : (r : Inside) (s : State) (a : CodeAtom) (n : ℕ) → IsReader r → state_of r ≡ s → Grown r.n a.x.den a.y.den a.z.den n → n ≤ 1000000 → 1000000 < lcm (lcm (lcm r.k a.ma.den) a.mb.den) a.mc.den → atom_faults s.held (atom_view a) ≡ Some MomentRange
+place-moment r s a n h v g w over =
+    subst (λ (t : State). atom_faults t.held (atom_view a) ≡ Some MomentRange) v (faults-moment (state_of r).held (atom_view a) (positions_fit (map atom_view r.atoms.items) (atom_view a) r.n h.n_is (rw (← g.is) w)) (moments_past (map atom_view r.atoms.items) (atom_view a) r.k h.k_is over))
+
+pub place-wide : (r : Inside) (s : State) (a : CodeAtom) (n k : ℕ) → IsReader r → state_of r ≡ s → Fits r a n k → is_billion_by k (moments (s.held.atoms ++ atom_view a ∷ [])) ≡ false → atom_faults s.held (atom_view a) ≡ Some MomentRange
+place-wide r s a n k h v f wide =
+    subst (λ (t : State). atom_faults t.held (atom_view a) ≡ Some MomentRange) v (faults-moment (state_of r).held (atom_view a)
+    (positions_fit (map atom_view r.atoms.items) (atom_view a) r.n h.n_is (rw (← f.n_is.is) f.n_within))
+    (moments_are (map atom_view r.atoms.items) (atom_view a) r.k k false h.k_is f.k_is.is f.k_within (sym (range_held r s (atom_view a) k v ∙ wide))))
+
+pub place-rest : (r : Inside) (s : State) (a : CodeAtom) (n k : ℕ) (fault : Option CellFault) → IsReader r → state_of r ≡ s → Fits r a n k → is_billion_by k (moments (s.held.atoms ++ atom_view a ∷ [])) ≡ true → same_place (map atom_view r.atoms.items) (atom_view a) ≡ fault → atom_faults s.held (atom_view a) ≡ fault
+place-rest r s a n k fault h v f fit same =
+    subst (λ (t : State). atom_faults t.held (atom_view a) ≡ fault) v (faults-place (state_of r).held (atom_view a) fault
+    (positions_fit (map atom_view r.atoms.items) (atom_view a) r.n h.n_is (rw (← f.n_is.is) f.n_within))
+    (moments_are (map atom_view r.atoms.items) (atom_view a) r.k k true h.k_is f.k_is.is f.k_within (sym (range_held r s (atom_view a) k v ∙ fit))) same)
+
+pub placed_n : (xs ys : List CodeAtom) (a : CodeAtom) (old n : ℕ) → old ≡ common_denominator (positions (map atom_view xs)) → Grown old a.x.den a.y.den a.z.den n → ys ≡ xs ++ a ∷ [] → n ≡ common_denominator (positions (map atom_view ys))
+placed_n xs ys a old n e g same =
+    let there : common_denominator (positions (map atom_view ys)) ≡ common_denominator (positions (map atom_view xs ++ atom_view a ∷ [])) = ap (λ (zs : List AtomLine). common_denominator (positions zs)) (ap (map atom_view) same ∙ map-append atom_view xs (a ∷ [])) in
+    g.is ∙ sym (there ∙ positions_more (map atom_view xs) (atom_view a) ∙ rw (← e) refl)
+
+pub placed_k : (xs ys : List CodeAtom) (a : CodeAtom) (old k : ℕ) → old ≡ common_denominator (moments (map atom_view xs)) → Grown old a.ma.den a.mb.den a.mc.den k → ys ≡ xs ++ a ∷ [] → k ≡ common_denominator (moments (map atom_view ys))
+placed_k xs ys a old k e g same =
+    let there : common_denominator (moments (map atom_view ys)) ≡ common_denominator (moments (map atom_view xs ++ atom_view a ∷ [])) = ap (λ (zs : List AtomLine). common_denominator (moments zs)) (ap (map atom_view) same ∙ map-append atom_view xs (a ∷ [])) in
+    g.is ∙ sym (there ∙ moments_more (map atom_view xs) (atom_view a) ∙ rw (← e) refl)
+
+-- ---- no two at one position
+
+split : (t : Bool) (fault : CellFault) (rest : Option CellFault) → or_else (when t fault) rest ≡ None → (t ≡ false) × (rest ≡ None)
+split true fault rest e = absurd cc
+split false fault rest e = (refl, e)
+
+none_same : (i j : ℕ) (held : List AtomLine) (b : AtomLine) → same_place_from i j held b ≡ None → list_all (λ a. not (is_same_place a b)) held ≡ true
+none_same i j [] b e = refl
+none_same i j (a ∷ held) b e =
+    let p = split (is_same_place a b) (SamePlace i j) (same_place_from (i + 1) j held b) e in
+    rw p.0 (none_same (i + 1) j held b p.1)
+
+all_more : (test : AtomLine → Bool) (xs : List AtomLine) (b : AtomLine) → list_all test xs ≡ true → test b ≡ true → list_all test (xs ++ b ∷ []) ≡ true
+all_more test xs b h e = rw (list_all-append test xs (b ∷ []), h, e) refl
+
+pub apart_more : (xs : List AtomLine) (b : AtomLine) → AreApart xs → list_all (λ a. not (is_same_place a b)) xs ≡ true → AreApart (xs ++ b ∷ [])
+apart_more [] b h e = (refl, tt)
+apart_more (a ∷ xs) b h e =
+    let p = and_parts (not (is_same_place a b)) _ e in
+    (all_more (λ c. not (is_same_place a c)) xs b h.0 p.0, apart_more xs b h.1 p.1)
+
+pub placed_apart : (xs ys : List CodeAtom) (a : CodeAtom) → AreApart (map atom_view xs) → same_place (map atom_view xs) (atom_view a) ≡ None → ys ≡ xs ++ a ∷ [] → AreApart (map atom_view ys)
+unfolding same_place
+placed_apart xs ys a h e same =
+    subst AreApart (sym (ap (map atom_view) same ∙ map-append atom_view xs (a ∷ []))) (apart_more (map atom_view xs) (atom_view a) h (none_same 1 _ (map atom_view xs) (atom_view a) e))

@@ -1,0 +1,25 @@
+use Rattle.std.proofs.Common.{◌≡◌, ℕ, List, sym, ap, subst, ◌∙◌}
+use Rattle.crystal_spec.specs.Crystals.{Structure}
+use Rattle.crystal_spec.specs.Operations.{IsWithinCell}
+use Rattle.crystal.specs.Views.{triple_of}
+use Rattle.cell_text.specs.CellFile.{number_of, with_name}
+use Rattle.cell_text.proofs.Fillings.{is_small, is_named}
+use Rattle.cell_text.proofs.cell.add_atom.Goals as goal
+
+pub overflow_cast-number : goal.overflow_cast-number
+overflow_cast-number c =
+    let names = c.args.cell.now.names in
+    let number : c.in_ok-number.number ≡ number_of names c.in_ok-name.name.items = c.in_ok-number.ensures.number ∙ ap (λ (ns : List (List ℕ)). number_of ns c.in_ok-name.name.items) c.requires.names in
+    record { fits = is_small names c.in_ok-name.name.items c.in_ok-number.number number c.requires.fewer_names }
+
+pub add-requires-clause-site : goal.add-requires-clause-site
+add-requires-clause-site c =
+    let names = c.args.cell.now.names in
+    let number : c.in_ok-number.number ≡ number_of names c.in_ok-name.name.items = c.in_ok-number.ensures.number ∙ ap (λ (ns : List (List ℕ)). number_of ns c.in_ok-name.name.items) c.requires.names in
+    let same : c.deref-2.result.now ≡ c.in_ok-name.name.items = c.deref-2.ensures.value ∙ sym (c.in_ok-name.ensures.items ∙ c.deref.ensures.value) in
+    let more : c.name_species.new.cell.names ≡ with_name names c.in_ok-name.name.items = ap (λ (s : Structure). s.names) c.in_ok-name_species.ensures ∙ ap (with_name names) same in
+    record {
+      named = is_named names c.name_species.new.cell.names c.in_ok-name.name.items c.in_ok-number.number number more;
+      within = subst (λ (n : ℕ). IsWithinCell n (triple_of c.position_of.result)) c.n-n.ensures c.position_of.ensures.within;
+      moment = c.moment_of.ensures.size;
+    }

@@ -1,0 +1,53 @@
+-- What the reader's state stands for.
+use Rattle.std.specs.Prelude.{◌≡◌, ℕ, ◌<◌, ◌≤◌, List, [], ◌∷◌, map, length, get_or, true, pos}
+use Rattle.std.specs.declared.option.Option.{Option}
+use Rattle.std.specs.declared.option.Option.TheVariants.{Some, None}
+use Rattle.crystal.specs.Views.{metric_of as tensor}
+use Rattle.cell_text.specs.Numbers.{Fraction, common_denominator, scaled}
+use Rattle.cell_text.specs.Entries.{ScaledMetric, positions, moments, symmetric, is_positive}
+use Rattle.cell_text.specs.Views.{fraction_of, atom_view, State, AreApart}
+use Rattle.cell_text.specs.declared.scaled_metric.ScaledMetric.{ScaledMetric as CodeMetric}
+use Rattle.cell_text.specs.declared.metric.MetricLine.{MetricLine}
+use Rattle.cell_text.specs.declared.reader.Reader.TheInside.{Inside}
+
+abbrev pub metric_view : CodeMetric → ScaledMetric
+metric_view m = record { scale = m.scale; entries = tensor m.metric }
+
+-- the six numbers
+abbrev pub fractions : MetricLine → List Fraction
+fractions m = fraction_of m.aa ∷ fraction_of m.bb ∷ fraction_of m.cc ∷ fraction_of m.bc ∷ fraction_of m.ac ∷ fraction_of m.ab ∷ []
+
+abbrev pub nothing : Fraction
+nothing = record { num = pos 0; den = 1 }
+
+-- the metric tensor of six numbers in units of 1/d
+abbrev pub scaled_tensor : ℕ → List Fraction → ScaledMetric
+scaled_tensor d fs = record {
+  scale = d;
+  entries = symmetric (scaled d (get_or fs 0 nothing)) (scaled d (get_or fs 1 nothing)) (scaled d (get_or fs 2 nothing)) (scaled d (get_or fs 3 nothing)) (scaled d (get_or fs 4 nothing)) (scaled d (get_or fs 5 nothing));
+}
+
+abbrev pub metrics_of : Option CodeMetric → List ScaledMetric
+metrics_of None = []
+metrics_of (Some m) = metric_view m ∷ []
+
+abbrev pub state_of : Inside → State
+state_of r = record { count = r.count; held = record { metrics = metrics_of r.metric; atoms = map atom_view r.atoms.items; ended = r.ended } }
+
+-- the metric tensor, where there is one, is positive
+abbrev pub IsPositiveIfThere : Option CodeMetric → Type 0
+IsPositiveIfThere None = Unit {0}
+IsPositiveIfThere (Some m) = is_positive (tensor m.metric) ≡ true
+
+-- It keeps the least common denominators so far, and only atoms and metric tensors that broke no rule.
+pub record IsReader (r : Inside) : Type 0 where
+  pub n_is : r.n ≡ common_denominator (positions (map atom_view r.atoms.items))
+  pub k_is : r.k ≡ common_denominator (moments (map atom_view r.atoms.items))
+  pub n_positive : 0 < r.n
+  pub k_positive : 0 < r.k
+  pub n_within : r.n ≤ 1000000
+  pub k_within : r.k ≤ 1000000
+  pub few : length r.atoms.items ≤ 512
+  pub apart : AreApart (map atom_view r.atoms.items)
+  pub positive : IsPositiveIfThere r.metric
+  pub ends : r.ended ≡ true → (0 < length (metrics_of r.metric)) × (0 < length r.atoms.items)
