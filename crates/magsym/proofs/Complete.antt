@@ -4,11 +4,13 @@ use Rattle.std.proofs.lemmas.List.{length-append}
 use Rattle.std.specs.declared.option.Option.{Option}
 use Rattle.std.specs.declared.result.Result.TheVariants.{Ok, Err}
 use Rattle.std.specs.Io.KnownBytes.{Consumes, IsAtEnd}
-use Rattle.cell_text.specs.SimpleForm.{SpellsSimple}
+use Rattle.cell_text.specs.declared.fault.CellFault.{CellFault}
+use Rattle.cell_text.specs.Rules.{cell_fault}
+use Rattle.cell_text.specs.CellFile.{Spells}
 use Rattle.magsym.specs.declared.command.Command.TheVariants.{Symmetry}
 use Rattle.magsym.specs.declared.status.Kept.TheVariants.{NoBase}
 use Rattle.magsym.specs.declared.status.Status.{Status}
-use Rattle.magsym.specs.declared.status.Status.TheVariants.{Done, Usage, CellTooLong, NotSimple, NotRightAngled, ReadFault, WriteFault, Memory}
+use Rattle.magsym.specs.declared.status.Status.TheVariants.{Done, Usage, CellTooLong, CellRefused, NotRightAngled, ReadFault, WriteFault, Memory}
 use Rattle.magsym.specs.Commands.{command}
 use Rattle.magsym.specs.Outcomes.{Streams, Outcome}
 use Rattle.magsym.specs.Completeness.{IsAnswerable, IsDoneOrMemory}
@@ -28,6 +30,9 @@ taken_within (Some xs) (Some ys) text taken e p =
     let same : text ≡ xs = cc in
     let count : length text ≡ length taken + length ys = ap length (same ∙ p) ∙ length-append taken ys in omega (arith, count)
 
+none_is_some : {p : ℕ × CellFault} → None ≡ Some p → ⊥
+none_is_some e = absurd e
+
 -- by cases on the status
 pub complete_of_outcome : (ws : List (List ℕ)) (s : Streams) (status : Status) → Outcome ws s status → IsAnswerable ws s → IsDoneOrMemory status
 complete_of_outcome ws s (Done NoBase) o a = tt
@@ -37,12 +42,13 @@ complete_of_outcome ws s (Usage fault) o a =
     let faulty : command ws ≡ Err fault = o in absurd cc
 complete_of_outcome ws s (WriteFault written NoBase) o a = absurd (a.output_works o.1.cause)
 complete_of_outcome ws s ReadFault o a = absurd (a.input_works o.1.cause)
-complete_of_outcome ws s NotSimple o a =
+complete_of_outcome ws s (CellRefused line fault) o a =
     let same = read_is_text s.left s.left_after a.text o.1.text a.is_input o.1.read.taken o.1.read.none_left in
-    absurd (o.1.spells_none a.cell (subst (λ (t : List ℕ). SpellsSimple t a.cell) same a.spelled))
+    let none : cell_fault o.1.text ≡ None = subst (λ (t : List ℕ). cell_fault t ≡ None) same a.spelled.faultless in
+    let some : cell_fault o.1.text ≡ Some (line, fault) = o.1.first in absurd (none_is_some (sym none ∙ some))
 complete_of_outcome ws s NotRightAngled o a =
     let same = read_is_text s.left s.left_after a.text o.1.text a.is_input o.1.read.taken o.1.read.none_left in
-    absurd (o.1.oblique (a.right_angled o.1.cell (subst (λ (t : List ℕ). SpellsSimple t o.1.cell) (sym same) o.1.spelled)))
+    absurd (o.1.oblique (a.right_angled o.1.cell (subst (λ (t : List ℕ). Spells t o.1.cell) (sym same) o.1.spelled)))
 complete_of_outcome ws s CellTooLong o a =
     let within = taken_within s.left s.left_after a.text o.1.taken a.is_input o.1.consumed in
     absurd (omega (arith, within, o.1.count, a.short))

@@ -28,12 +28,12 @@ tells_nothing a n = record { front = []; rest = []; are = refl; written = append
 -- a piece, and then the rest of the line
 pub tells_more : (a b c : Option (List ℕ)) (f g h : ℕ) (piece line : List ℕ) → Appends a b piece → f ≤ g → Tells b c g h line → Tells a c f h (piece ++ line)
 tells_more a b c f g h piece line p later t = record {
-    front = piece ++ t.front;
-    rest = t.rest;
-    are = ap (λ zs. piece ++ zs) t.are ∙ sym (append_assoc piece t.front t.rest);
-    written = appends_both a b c piece t.front p t.written;
-    whole = by t.whole;
-  }
+  front = piece ++ t.front;
+  rest = t.rest;
+  are = ap (λ zs. piece ++ zs) t.are ∙ sym (append_assoc piece t.front t.rest);
+  written = appends_both a b c piece t.front p t.written;
+  whole = by t.whole;
+}
   where
     by : (t.rest ≡ []) ⊎ Rose g h → (t.rest ≡ []) ⊎ Rose f h
     by (inl e) = inl e
@@ -42,12 +42,12 @@ tells_more a b c f g h piece line p later t = record {
 -- a piece that was cut off
 pub tells_part : (a b : Option (List ℕ)) (f g : ℕ) (piece line : List ℕ) (n : ℕ) → Appends a b (take n piece) → Rose f g → Tells a b f g (piece ++ line)
 tells_part a b f g piece line n p r = record {
-    front = take n piece;
-    rest = drop n piece ++ line;
-    are = ap (λ zs. zs ++ line) (sym (take-append-drop n piece)) ∙ append_assoc (take n piece) (drop n piece) line;
-    written = p;
-    whole = inr r;
-  }
+  front = take n piece;
+  rest = drop n piece ++ line;
+  are = ap (λ zs. zs ++ line) (sym (take-append-drop n piece)) ∙ append_assoc (take n piece) (drop n piece) line;
+  written = p;
+  whole = inr r;
+}
 
 -- the first of several pieces was cut off
 pub tells_first_part : (pieces : List (Bor (List ℕ))) (d : Bor (List ℕ)) (a b : Option (List ℕ)) (f g : ℕ) (result : Result (Unit {0}) OutFault) → 1 ≤ length pieces → is_ok result ≡ false → WritesAll a b f g (get_or pieces 0 d).now result → Tells a b f g (concat (map (λ (piece : Bor (List ℕ)). piece.now) pieces))

@@ -5,11 +5,11 @@ use Rattle.std.specs.Prelude.{◌≡◌, ◌≤◌, ℕ, List, length, Some}
 use Rattle.std.specs.declared.result.Result.TheVariants.{Ok}
 use Rattle.io_edge.specs.Causes.{Rose}
 use Rattle.crystal_spec.specs.Crystals.{Structure}
-use Rattle.cell_text.specs.SimpleForm.{SpellsSimple}
+use Rattle.cell_text.specs.CellFile.{Spells}
 use Rattle.mag_ops.specs.RightAngled.{IsRightAngled}
 use Rattle.magsym.specs.declared.command.Command.TheVariants.{Symmetry}
 use Rattle.magsym.specs.declared.status.Status.{Status}
-use Rattle.magsym.specs.declared.status.Status.TheVariants.{Done, Usage, CellTooLong, NotSimple, NotRightAngled, ReadFault, WriteFault, Memory}
+use Rattle.magsym.specs.declared.status.Status.TheVariants.{Done, Usage, CellTooLong, CellRefused, NotRightAngled, ReadFault, WriteFault, Memory}
 use Rattle.magsym.specs.Commands.{command}
 use Rattle.magsym.specs.Outcomes.{Streams}
 
@@ -21,8 +21,8 @@ pub record IsAnswerable (ws : List (List ℕ)) (s : Streams) : Type 0 where
   pub is_input : s.left ≡ Some text
   pub short : length text ≤ 262144
   pub cell : Structure
-  pub spelled : SpellsSimple text cell
-  pub right_angled : (c : Structure) → SpellsSimple text c → IsRightAngled c.metric
+  pub spelled : Spells text cell
+  pub right_angled : (c : Structure) → Spells text c → IsRightAngled c.metric
   pub input_works : Rose s.in_faults s.in_faults_after → ⊥
   pub output_works : Rose s.out_faults s.out_faults_after → ⊥
 
@@ -32,7 +32,7 @@ IsDoneOrMemory (Done kept) = Unit {0}
 IsDoneOrMemory Memory = Unit {0}
 IsDoneOrMemory (Usage fault) = ⊥
 IsDoneOrMemory (WriteFault written kept) = ⊥
-IsDoneOrMemory NotSimple = ⊥
+IsDoneOrMemory (CellRefused line fault) = ⊥
 IsDoneOrMemory NotRightAngled = ⊥
 IsDoneOrMemory CellTooLong = ⊥
 IsDoneOrMemory ReadFault = ⊥

@@ -6,18 +6,21 @@
 --   Outcome ws s status    what the status says, for these words and streams
 use Rattle.std.specs.Prelude.{◌≡◌, ℕ, ◌<◌, ◌≤◌, Bool, true, false, List, length, take}
 use Rattle.std.specs.declared.option.Option.{Option}
+use Rattle.std.specs.declared.option.Option.TheVariants.{Some}
 use Rattle.std.specs.declared.result.Result.TheVariants.{Ok, Err}
 use Rattle.std.specs.Io.KnownBytes.{Appends, Consumes, IsAtEnd}
 use Rattle.io_edge.specs.Causes.{Rose}
 use Rattle.crystal_spec.specs.Crystals.{Structure}
 use Rattle.crystal_spec.specs.Operations.{Operation, ListsAll}
-use Rattle.cell_text.specs.SimpleForm.{SpellsSimple}
+use Rattle.cell_text.specs.declared.fault.CellFault.{CellFault}
+use Rattle.cell_text.specs.Rules.{cell_fault}
+use Rattle.cell_text.specs.CellFile.{Spells}
 use Rattle.mag_ops.specs.RightAngled.{IsRightAngled}
 use Rattle.report_text.specs.OperationText.{lines_text}
 use Rattle.magsym.specs.declared.command.Command.TheVariants.{Symmetry}
 use Rattle.magsym.specs.declared.status.Kept.TheVariants.{NoBase}
 use Rattle.magsym.specs.declared.status.Status.{Status}
-use Rattle.magsym.specs.declared.status.Status.TheVariants.{Done, Usage, CellTooLong, NotSimple, NotRightAngled, ReadFault, WriteFault, Memory}
+use Rattle.magsym.specs.declared.status.Status.TheVariants.{Done, Usage, CellTooLong, CellRefused, NotRightAngled, ReadFault, WriteFault, Memory}
 use Rattle.magsym.specs.Commands.{command}
 
 -- The bytes that are left of the input before and after, its counts of faults, and whether an end is seen after; the bytes
@@ -51,7 +54,7 @@ pub record Answers (s : Streams) (report : List ℕ) : Type 0 where
   pub text : List ℕ
   pub read : ReadWhole s text
   pub cell : Structure
-  pub spelled : SpellsSimple text cell
+  pub spelled : Spells text cell
   pub right_angled : IsRightAngled cell.metric
   pub is_report : SymmetryReport cell report
 
@@ -69,18 +72,18 @@ pub record WritesPart (s : Streams) (written : ℕ) : Type 0 where
   pub appended : Appends s.held s.held_after (take written report)
   pub cause : Rose s.out_faults s.out_faults_after
 
--- the input was read to its end, and spells no cell of the simple form
-pub record SpellsNoCell (s : Streams) : Type 0 where
+-- the input was read to its end, and this line, counted from 1, is the first that breaks a rule of the cell file: this rule
+pub record BreaksRule (s : Streams) (line : ℕ) (fault : CellFault) : Type 0 where
   pub text : List ℕ
   pub read : ReadWhole s text
-  pub spells_none : (c : Structure) → SpellsSimple text c → ⊥
+  pub first : cell_fault text ≡ Some (line, fault)
 
 -- the input was read to its end, and spells a cell whose axes are not at right angles
 pub record SpellsOblique (s : Streams) : Type 0 where
   pub text : List ℕ
   pub read : ReadWhole s text
   pub cell : Structure
-  pub spelled : SpellsSimple text cell
+  pub spelled : Spells text cell
   pub oblique : IsRightAngled cell.metric → ⊥
 
 -- 262,145 bytes of the input were taken before an end or a fault
@@ -103,7 +106,7 @@ abbrev pub IsUsage : Status → Type 0
 IsUsage (Usage fault) = Unit {0}
 IsUsage (Done kept) = ⊥
 IsUsage (WriteFault written kept) = ⊥
-IsUsage NotSimple = ⊥
+IsUsage (CellRefused line fault) = ⊥
 IsUsage NotRightAngled = ⊥
 IsUsage CellTooLong = ⊥
 IsUsage ReadFault = ⊥
@@ -114,7 +117,7 @@ abbrev pub IsRefusal : Status → Type 0
 IsRefusal (Usage fault) = Unit {0}
 IsRefusal (Done kept) = ⊥
 IsRefusal (WriteFault written kept) = ⊥
-IsRefusal NotSimple = Unit {0}
+IsRefusal (CellRefused line fault) = Unit {0}
 IsRefusal NotRightAngled = Unit {0}
 IsRefusal CellTooLong = Unit {0}
 IsRefusal ReadFault = Unit {0}
@@ -126,7 +129,7 @@ abbrev pub Outcome : List (List ℕ) → Streams → Status → Type 0
 Outcome ws s (Usage fault) = command ws ≡ Err fault
 Outcome ws s (Done NoBase) = (command ws ≡ Ok Symmetry) × WritesReport s
 Outcome ws s (WriteFault written NoBase) = (command ws ≡ Ok Symmetry) × WritesPart s written
-Outcome ws s NotSimple = (command ws ≡ Ok Symmetry) × SpellsNoCell s
+Outcome ws s (CellRefused line fault) = (command ws ≡ Ok Symmetry) × BreaksRule s line fault
 Outcome ws s NotRightAngled = (command ws ≡ Ok Symmetry) × SpellsOblique s
 Outcome ws s CellTooLong = (command ws ≡ Ok Symmetry) × IsTooLong s
 Outcome ws s ReadFault = (command ws ≡ Ok Symmetry) × FailsToRead s

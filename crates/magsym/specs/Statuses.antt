@@ -1,18 +1,20 @@
 -- How a run ended: its exit status, and the line that tells it.
 --   number_of status   the exit status of the program
---   text_of status     the sentence on a refusal or a fault
+--   fault_line fault   what the line says of a fault of the cell file
 --   line_of status     what goes to the error stream: nothing after a whole report, else one line
-use Rattle.std.specs.Prelude.{ℕ, List, [], ◌∷◌, ◌++◌, codes}
+use Rattle.std.specs.Prelude.{ℕ, List, [], ◌∷◌, ◌++◌, codes, decimal}
+use Rattle.cell_text.specs.declared.fault.CellFault.{CellFault}
+use Rattle.cell_text.specs.declared.fault.CellFault.TheVariants.{NotMagcell, BadByte, BadLine, BadNumber, NumberRange, ZeroDenominator, MetricTwice, MetricMissing, MetricRange, NotPositive, PositionRange, MomentRange, TooManyAtoms, NoAtom, SamePlace, NoEnd, AfterEnd}
 use Rattle.magsym.specs.declared.command.UsageFault.{UsageFault}
 use Rattle.magsym.specs.declared.command.UsageFault.TheVariants.{NoCommand, UnknownCommand, UnknownOption}
 use Rattle.magsym.specs.declared.status.Status.{Status}
-use Rattle.magsym.specs.declared.status.Status.TheVariants.{Done, Usage, CellTooLong, NotSimple, NotRightAngled, ReadFault, WriteFault, Memory}
+use Rattle.magsym.specs.declared.status.Status.TheVariants.{Done, Usage, CellTooLong, CellRefused, NotRightAngled, ReadFault, WriteFault, Memory}
 
 abbrev pub number_of : Status → ℕ
 number_of (Done kept) = 0
 number_of (Usage fault) = 2
 number_of CellTooLong = 3
-number_of NotSimple = 3
+number_of (CellRefused line fault) = 3
 number_of NotRightAngled = 3
 number_of ReadFault = 5
 number_of (WriteFault written kept) = 6
@@ -27,11 +29,31 @@ usage_line NoCommand = told (codes "no command")
 usage_line UnknownCommand = told (codes "unknown command")
 usage_line UnknownOption = told (codes "unknown option")
 
+-- lines and atoms are counted from 1
+abbrev pub fault_line : CellFault → List ℕ
+fault_line NotMagcell = codes "not a magcell 1 file\n"
+fault_line BadByte = codes "byte is not plain ASCII\n"
+fault_line BadLine = codes "line has no known form\n"
+fault_line BadNumber = codes "not a number\n"
+fault_line NumberRange = codes "number has more than 18 digits\n"
+fault_line ZeroDenominator = codes "denominator is zero\n"
+fault_line MetricTwice = codes "metric is given twice\n"
+fault_line MetricMissing = codes "metric is missing\n"
+fault_line MetricRange = codes "metric is out of range\n"
+fault_line NotPositive = codes "metric is not positive\n"
+fault_line PositionRange = codes "positions have no common denominator up to 1000000\n"
+fault_line MomentRange = codes "moments are out of range\n"
+fault_line TooManyAtoms = codes "more than 512 atoms\n"
+fault_line NoAtom = codes "no atom\n"
+fault_line (SamePlace i j) = codes "atoms " ++ decimal i ++ codes " and " ++ decimal j ++ codes " stand at one place\n"
+fault_line NoEnd = codes "end is missing\n"
+fault_line AfterEnd = codes "text after end\n"
+
 abbrev pub line_of : Status → List ℕ
 line_of (Done kept) = []
 line_of (Usage fault) = usage_line fault
 line_of CellTooLong = told (codes "cell is longer than 262144 bytes")
-line_of NotSimple = told (codes "cell is not of the simple form")
+line_of (CellRefused line fault) = codes "magsym: line " ++ decimal line ++ codes ": " ++ fault_line fault
 line_of NotRightAngled = told (codes "cell is not right-angled")
 line_of ReadFault = told (codes "reading failed")
 line_of (WriteFault written kept) = told (codes "writing failed")

@@ -59,7 +59,7 @@ fn answer<I: Source, O: Sink, L: Ledger>(
     };
     let cell = match read_cell(alloc, &text) {
         Ok(cell) => cell,
-        Err(CellError::NotSimple) => return Status::NotSimple,
+        Err(CellError::Refused(line, fault)) => return Status::CellRefused(line, fault),
         Err(CellError::Memory) => return Status::Memory,
     };
     if !is_right_angled(cell.metric()) {

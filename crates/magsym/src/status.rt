@@ -1,7 +1,8 @@
 ghost use Rattle.std.specs.Prelude.{◌≡◌};
-ghost use Rattle.magsym.specs.Statuses.{number_of, line_of};
+ghost use Rattle.magsym.specs.Statuses.{number_of};
 
 use crate::command::UsageFault;
+use cell_text::CellFault;
 
 /// The reduced basis that a report speaks of.
 #[derive(Clone, Copy, Debug, PartialEq, Eq)]
@@ -22,8 +23,8 @@ pub enum Status {
     /// The input has more than 262,144 bytes.
     CellTooLong,
 
-    /// The input is not a cell of the simple form.
-    NotSimple,
+    /// The line with this number, from 1, is the first of the input that breaks a rule of the cell file.
+    CellRefused(u32, CellFault),
 
     /// The axes of the cell are not at right angles.
     NotRightAngled,
@@ -46,28 +47,10 @@ impl Status {
         match self {
             Status::Done(_) => 0,
             Status::Usage(_) => 2,
-            Status::CellTooLong | Status::NotSimple | Status::NotRightAngled => 3,
+            Status::CellTooLong | Status::CellRefused(_, _) | Status::NotRightAngled => 3,
             Status::ReadFault => 5,
             Status::WriteFault(_, _) => 6,
             Status::Memory => 7,
-        }
-    }
-
-    /// The line that tells a person how the run ended, empty where the report is written.
-    pub(crate) fn line(&self) -> &'static [u8]
-        ensures { result.now ≡ line_of self.now }
-    {
-        match self {
-            Status::Done(_) => b"",
-            Status::Usage(UsageFault::NoCommand) => b"magsym: no command\n",
-            Status::Usage(UsageFault::UnknownCommand) => b"magsym: unknown command\n",
-            Status::Usage(UsageFault::UnknownOption) => b"magsym: unknown option\n",
-            Status::CellTooLong => b"magsym: cell is longer than 262144 bytes\n",
-            Status::NotSimple => b"magsym: cell is not of the simple form\n",
-            Status::NotRightAngled => b"magsym: cell is not right-angled\n",
-            Status::ReadFault => b"magsym: reading failed\n",
-            Status::WriteFault(_, _) => b"magsym: writing failed\n",
-            Status::Memory => b"magsym: out of memory\n",
         }
     }
 }

@@ -1,10 +1,14 @@
-ghost use Rattle.std.specs.Prelude.{◌≡◌, ◌≤◌, ◌<◌, map, length};
+ghost use Rattle.std.specs.Prelude.{◌≤◌, ◌++◌, map, codes, decimal};
 ghost use Rattle.std.specs.List.{concat};
 ghost use Rattle.magsym.specs.Telling.{Tells};
+ghost use Rattle.magsym.specs.declared.status.Status.TheVariants.{CellRefused};
 ghost use Rattle.magsym.specs.Statuses.{line_of};
 
+use crate::command::UsageFault;
 use crate::status::Status;
+use cell_text::CellFault;
 use io_edge::{Sink, write_whole};
+use itoa::Buffer;
 
 /// Writes the pieces of a line, one after another. A failed write leaves out the rest of the line.
 fn tell_pieces<E: Sink>(err: &mut E, pieces: &[&[u8]])
@@ -18,10 +22,85 @@ fn tell_pieces<E: Sink>(err: &mut E, pieces: &[&[u8]])
     }
 }
 
+/// Writes that a line of the cell file breaks a rule, and this text on the rule.
+fn tell_at<E: Sink>(err: &mut E, line: u32, text: &[u8])
+    ensures told { Tells (E.held err.old) (E.held err.new) (E.faults err.old) (E.faults err.new) (codes "magsym: line " ++ decimal line ++ codes ": " ++ text.now) }
+    ensures later { E.faults err.old ≤ E.faults err.new }
+{
+    let mut number = Buffer::new();
+    let line = number.format(line).as_bytes();
+    tell_pieces(err, &[b"magsym: line ".as_slice(), line, b": ", text]);
+}
+
+/// Writes that a line of the cell file gives an atom at the position of another.
+fn tell_same_place<E: Sink>(err: &mut E, line: u32, first: u32, second: u32)
+    ensures told { Tells (E.held err.old) (E.held err.new) (E.faults err.old) (E.faults err.new) (codes "magsym: line " ++ decimal line ++ codes ": atoms " ++ decimal first ++ codes " and " ++ decimal second ++ codes " stand at one place\n") }
+    ensures later { E.faults err.old ≤ E.faults err.new }
+{
+    let (mut number, mut one, mut other) = (Buffer::new(), Buffer::new(), Buffer::new());
+    let line = number.format(line).as_bytes();
+    let first = one.format(first).as_bytes();
+    let second = other.format(second).as_bytes();
+    tell_pieces(
+        err,
+        &[
+            b"magsym: line ".as_slice(),
+            line,
+            b": atoms ",
+            first,
+            b" and ",
+            second,
+            b" stand at one place\n",
+        ],
+    );
+}
+
+/// Writes the line on a cell that is refused.
+fn tell_refused<E: Sink>(err: &mut E, line: u32, fault: &CellFault)
+    ensures told { Tells (E.held err.old) (E.held err.new) (E.faults err.old) (E.faults err.new) (line_of (CellRefused line fault.now)) }
+    ensures later { E.faults err.old ≤ E.faults err.new }
+{
+    match fault {
+        CellFault::NotMagcell => tell_at(err, line, b"not a magcell 1 file\n"),
+        CellFault::BadByte => tell_at(err, line, b"byte is not plain ASCII\n"),
+        CellFault::BadLine => tell_at(err, line, b"line has no known form\n"),
+        CellFault::BadNumber => tell_at(err, line, b"not a number\n"),
+        CellFault::NumberRange => tell_at(err, line, b"number has more than 18 digits\n"),
+        CellFault::ZeroDenominator => tell_at(err, line, b"denominator is zero\n"),
+        CellFault::MetricTwice => tell_at(err, line, b"metric is given twice\n"),
+        CellFault::MetricMissing => tell_at(err, line, b"metric is missing\n"),
+        CellFault::MetricRange => tell_at(err, line, b"metric is out of range\n"),
+        CellFault::NotPositive => tell_at(err, line, b"metric is not positive\n"),
+        CellFault::PositionRange => tell_at(
+            err,
+            line,
+            b"positions have no common denominator up to 1000000\n",
+        ),
+        CellFault::MomentRange => tell_at(err, line, b"moments are out of range\n"),
+        CellFault::TooManyAtoms => tell_at(err, line, b"more than 512 atoms\n"),
+        CellFault::NoAtom => tell_at(err, line, b"no atom\n"),
+        CellFault::SamePlace(i, j) => tell_same_place(err, line, *i, *j),
+        CellFault::NoEnd => tell_at(err, line, b"end is missing\n"),
+        CellFault::AfterEnd => tell_at(err, line, b"text after end\n"),
+    }
+}
+
 /// Writes the line of a status. A failed write leaves out the rest of the line.
 pub(crate) fn tell<E: Sink>(err: &mut E, status: &Status)
     ensures told { Tells (E.held err.old) (E.held err.new) (E.faults err.old) (E.faults err.new) (line_of status.now) }
     ensures later { E.faults err.old ≤ E.faults err.new }
 {
-    tell_pieces(err, &[status.line()]);
+    let line: &[u8] = match status {
+        Status::CellRefused(line, fault) => return tell_refused(err, *line, fault),
+        Status::Done(_) => b"",
+        Status::Usage(UsageFault::NoCommand) => b"magsym: no command\n",
+        Status::Usage(UsageFault::UnknownCommand) => b"magsym: unknown command\n",
+        Status::Usage(UsageFault::UnknownOption) => b"magsym: unknown option\n",
+        Status::CellTooLong => b"magsym: cell is longer than 262144 bytes\n",
+        Status::NotRightAngled => b"magsym: cell is not right-angled\n",
+        Status::ReadFault => b"magsym: reading failed\n",
+        Status::WriteFault(_, _) => b"magsym: writing failed\n",
+        Status::Memory => b"magsym: out of memory\n",
+    };
+    tell_pieces(err, &[line]);
 }
