@@ -54,3 +54,12 @@ pub tells_first_part : (pieces : List (Bor (List ℕ))) (d : Bor (List ℕ)) (a 
 tells_first_part [] d a b f g result h e w = absurd (omega arith)
 tells_first_part (piece ∷ rest) d a b f g (Ok u) h e w = absurd (cc e)
 tells_first_part (piece ∷ rest) d a b f g (Err fault) h e w = tells_part a b f g piece.now (concat (map (λ (p : Bor (List ℕ)). p.now) rest)) fault.written w.1 w.2
+
+-- seven pieces, one after another
+pub seven_pieces : (a b c d e f g : List ℕ) → a ++ (b ++ (c ++ (d ++ (e ++ (f ++ g))))) ≡ a ++ b ++ c ++ d ++ e ++ f ++ g
+seven_pieces a b c d e f g =
+    sym (append_assoc a b (c ++ (d ++ (e ++ (f ++ g)))))
+    ∙ sym (append_assoc (a ++ b) c (d ++ (e ++ (f ++ g))))
+    ∙ sym (append_assoc (a ++ b ++ c) d (e ++ (f ++ g)))
+    ∙ sym (append_assoc (a ++ b ++ c ++ d) e (f ++ g))
+    ∙ sym (append_assoc (a ++ b ++ c ++ d ++ e) f g)
