@@ -4,7 +4,6 @@ use Rattle.std.proofs.lemmas.List.{length-append}
 use Rattle.std.specs.declared.option.Option.{Option}
 use Rattle.std.specs.declared.result.Result.TheVariants.{Ok, Err}
 use Rattle.std.specs.Io.KnownBytes.{Consumes, IsAtEnd}
-use Rattle.cell_text.specs.declared.fault.CellFault.{CellFault}
 use Rattle.cell_text.specs.Rules.{cell_fault}
 use Rattle.cell_text.specs.CellFile.{Spells}
 use Rattle.magsym.specs.declared.command.Command.TheVariants.{Symmetry}
@@ -30,9 +29,6 @@ taken_within (Some xs) (Some ys) text taken e p =
     let same : text ≡ xs = cc in
     let count : length text ≡ length taken + length ys = ap length (same ∙ p) ∙ length-append taken ys in omega (arith, count)
 
-none_is_some : {p : ℕ × CellFault} → None ≡ Some p → ⊥
-none_is_some e = absurd e
-
 -- by cases on the status
 pub complete_of_outcome : (ws : List (List ℕ)) (s : Streams) (status : Status) → Outcome ws s status → IsAnswerable ws s → IsDoneOrMemory status
 complete_of_outcome ws s (Done NoBase) o a = tt
@@ -45,7 +41,7 @@ complete_of_outcome ws s ReadFault o a = absurd (a.input_works o.1.cause)
 complete_of_outcome ws s (CellRefused line fault) o a =
     let same = read_is_text s.left s.left_after a.text o.1.text a.is_input o.1.read.taken o.1.read.none_left in
     let none : cell_fault o.1.text ≡ None = subst (λ (t : List ℕ). cell_fault t ≡ None) same a.spelled.faultless in
-    let some : cell_fault o.1.text ≡ Some (line, fault) = o.1.first in absurd (none_is_some (sym none ∙ some))
+    let some : cell_fault o.1.text ≡ Some (line, fault) = o.1.first in absurd cc
 complete_of_outcome ws s NotRightAngled o a =
     let same = read_is_text s.left s.left_after a.text o.1.text a.is_input o.1.read.taken o.1.read.none_left in
     absurd (o.1.oblique (a.right_angled o.1.cell (subst (λ (t : List ℕ). Spells t o.1.cell) (sym same) o.1.spelled)))

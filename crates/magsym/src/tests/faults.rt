@@ -1,6 +1,7 @@
 // Inputs and outputs that fail.
 use super::{CUBIC, answer_to};
 use crate::status::{Kept, Status};
+use cell_text::CellFault;
 use std::test::Fail;
 
 #[test]
@@ -29,9 +30,9 @@ fn an_output_that_fails_is_told(rt: HostRuntime) -> Result<(), Fail> {
 
 #[test]
 fn an_error_stream_that_fails_changes_no_status(rt: HostRuntime) -> Result<(), Fail> {
-    for (call, held) in [(1, b"".as_slice()), (2, b"magsym: ce")] {
+    for (call, held) in [(1, b"".as_slice()), (2, b"magsym: li")] {
         let ran = answer_to(rt.alloc(), &[b"symmetry"], b"", [0, 0, call])?;
-        assert_eq!(rt; ran.status, Status::NotSimple);
+        assert_eq!(rt; ran.status, Status::CellRefused(1, CellFault::NotMagcell));
         assert_eq!(rt; ran.err.held(), held);
     }
     Ok(())

@@ -15,7 +15,7 @@ returns-clause-told g c =
     let Told : List ℕ → Type 0 = λ line. Tells (g.E.Sink.held c.args.err.now) (g.E.Sink.held c.tell_pieces.new.err) (g.E.Sink.faults c.args.err.now) (g.E.Sink.faults c.tell_pieces.new.err) line in
     let pieces = seven_pieces magsym line (codes ": atoms ") first (codes " and ") second (codes " stand at one place\n") in
     subst (λ (a : List ℕ). Told (a ++ decimal c.args.line ++ codes ": atoms " ++ decimal c.args.first ++ codes " and " ++ decimal c.args.second ++ codes " stand at one place\n")) c.as_slice.ensures
-      (subst (λ (b : List ℕ). Told (magsym ++ b ++ codes ": atoms " ++ decimal c.args.first ++ codes " and " ++ decimal c.args.second ++ codes " stand at one place\n")) is_line
-        (subst (λ (d : List ℕ). Told (magsym ++ line ++ codes ": atoms " ++ d ++ codes " and " ++ decimal c.args.second ++ codes " stand at one place\n")) is_first
-          (subst (λ (f : List ℕ). Told (magsym ++ line ++ codes ": atoms " ++ first ++ codes " and " ++ f ++ codes " stand at one place\n")) is_second
-            (subst (λ (whole : List ℕ). Told whole) pieces c.tell_pieces.ensures.told))))
+    (subst (λ (b : List ℕ). Told (magsym ++ b ++ codes ": atoms " ++ decimal c.args.first ++ codes " and " ++ decimal c.args.second ++ codes " stand at one place\n")) is_line
+    (subst (λ (d : List ℕ). Told (magsym ++ line ++ codes ": atoms " ++ d ++ codes " and " ++ decimal c.args.second ++ codes " stand at one place\n")) is_first
+    (subst (λ (f : List ℕ). Told (magsym ++ line ++ codes ": atoms " ++ first ++ codes " and " ++ f ++ codes " stand at one place\n")) is_second
+    (subst (λ (whole : List ℕ). Told whole) pieces c.tell_pieces.ensures.told))))
