@@ -181,3 +181,41 @@ fn cells_are_read(rt: HostRuntime) -> Result<(), Fail> {
     }
     Ok(())
 }
+
+#[test]
+fn numbers_at_their_limits_are_read(rt: HostRuntime) -> Result<(), Fail> {
+    for (text, n, k) in [
+        (
+            b"magcell 1\nmetric 1 1 1 0 0 0\natom A 0 0 0 0 0 1000000000\nend\n".as_slice(),
+            1,
+            1,
+        ),
+        (
+            b"magcell 1\nmetric 1 1 1 0 0 0\natom A 1/1000000 0 0\nend\n",
+            1_000_000,
+            1,
+        ),
+        (
+            b"magcell 1\nmetric 1 1 1 0 0 0\natom A 2/4 0 0\nend\n",
+            2,
+            1,
+        ),
+        (
+            b"magcell 1\nmetric 1000000000 1 1 0 0 0\natom A 0 0 0\nend\n",
+            1,
+            1,
+        ),
+        (
+            b"magcell 1\r\nmetric 1 1 1 0 0 0\r\natom A 0 0 0 0 0 1/3\r\nend\r\n",
+            1,
+            3,
+        ),
+    ] {
+        let Ok(cell) = read(rt.alloc(), text) else {
+            assert!(rt; false, "refused");
+            return Ok(());
+        };
+        assert_eq!(rt; (cell.n(), cell.k(), cell.count()), (n, k, 1));
+    }
+    Ok(())
+}
