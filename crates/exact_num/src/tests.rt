@@ -1,6 +1,7 @@
-// Values from outside, one table a type.
+// Values from outside, worked by hand, one table a type.
 
 use super::*;
+use std::test::Fail;
 
 fn fraction(terms: (i64, i64)) -> Option<Frac> {
     Frac::new(terms.0 as i128, terms.1 as i128)
@@ -112,7 +113,8 @@ fn divisors_and_multiples(rt: HostRuntime) {
         (4, 6, 11, None),
         (4, 6, 12, Some(12)),
         (7, 1, 7, Some(7)),
-        (200, 201, 255, None),
+        (200, 201, 40199, None),
+        (200, 201, 40200, Some(40200)),
     ] {
         assert_eq!(rt;
             multiple(a, b, bound),
@@ -120,12 +122,56 @@ fn divisors_and_multiples(rt: HostRuntime) {
             "of {a} and {b} within {bound}"
         );
     }
+    assert_eq!(rt; unsigned_multiple(21, 6, 42), Some(42));
+    assert_eq!(rt; unsigned_multiple(21, 6, 41), None);
 }
 
-fn multiple(a: u8, b: u8, bound: u8) -> Option<u8> {
+fn multiple(a: i128, b: i128, bound: i128) -> Option<i128> {
+    if a < 1 || b < 1 || bound < 0 {
+        None
+    } else {
+        lcm_within(a, b, bound)
+    }
+}
+
+fn unsigned_multiple(a: u128, b: u128, bound: u128) -> Option<u128> {
     if a == 0 || b == 0 {
         None
     } else {
         lcm_within(a, b, bound)
     }
+}
+
+/// Whether zero and one are zero, the sum with itself, and the product with itself.
+fn of_any_type<T: Exact>(a: &T) -> (bool, bool, Option<T>, Option<T>) {
+    (
+        a.zero_like().is_zero(),
+        a.one_like().is_zero(),
+        a.checked_add(a),
+        a.checked_mul(a),
+    )
+}
+
+#[test]
+fn each_type_through_its_trait(rt: HostRuntime) -> Result<(), Fail> {
+    let three = Int::new(3).ok_or("3 is an integer")?;
+    let (zero, one, sum, product) = of_any_type(&three);
+    assert_eq!(rt;
+        (zero, one, sum, product),
+        (true, false, Int::new(6), Int::new(9))
+    );
+    let half = Frac::new(1, 2).ok_or("1/2 is a fraction")?;
+    let (zero, one, sum, product) = of_any_type(&half);
+    assert_eq!(rt;
+        (zero, one, sum, product),
+        (true, false, Frac::new(1, 1), Frac::new(1, 4))
+    );
+    let residue = Residue::new(3, 5);
+    let (zero, one, sum, product) = of_any_type(&residue);
+    assert_eq!(rt; (zero, one), (true, false));
+    assert_eq!(rt;
+        (sum, product),
+        (Some(Residue::new(1, 5)), Some(Residue::new(4, 5)))
+    );
+    Ok(())
 }
