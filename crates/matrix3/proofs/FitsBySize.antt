@@ -2,6 +2,7 @@
 --   product_fits, product_size            the matrix product
 --   image_fits, image_size                a matrix applied to a column
 --   determinant_fits, determinant_size    the determinant
+--   adjugate_fits, adjugate_size          the adjugate
 -- m bounds the size of each entry of the first matrix, n that of each entry of the second or of the column, and N the
 -- size of a value of the type. At numerals each premise `T (leb .. N)` is `tt`.
 use Rattle.std.proofs.Common.{ℕ, ◌+◌, ◌*◌, ◌≤◌, T, ℤ, arith}
@@ -12,8 +13,8 @@ use Rattle.ring.specs.Size.{AtMost}
 use Rattle.ring.proofs.Sizes.{at_most_mul, at_most_add, at_most_neg}
 use Rattle.matrix3.specs.declared.vector.Vec3.{Vec3}
 use Rattle.matrix3.specs.declared.matrix.Mat3.{Mat3}
-use Rattle.matrix3.specs.Matrices.{dot, minor, alternating, product, image, determinant, EachEntry, EachCoordinate}
-use Rattle.matrix3.specs.Fits.{DotFits, MinorFits, AlternatingFits, ProductFits, ImageFits, DeterminantFits}
+use Rattle.matrix3.specs.Matrices.{dot, minor, alternating, product, image, determinant, adjugate, EachEntry, EachCoordinate}
+use Rattle.matrix3.specs.Fits.{DotFits, MinorFits, AlternatingFits, ProductFits, ImageFits, DeterminantFits, AdjugateFits}
 
 -- a larger bound
 raise : {m n : ℕ} {z : ℤ} → m ≤ n → AtMost m z → AtMost n z
@@ -85,7 +86,7 @@ module _ {m n : ℕ} (a : Mat3 ℤ) (v : Vec3 ℤ) (p : EachEntry (AtMost m) a) 
         z = dot_fits h p.a31 p.a32 p.a33 q.x q.y q.z;
       }
 
--- ---- the determinant
+-- ---- the determinant and the adjugate
 
 minor_size : {m : ℕ} {a b c d : ℤ} → AtMost m a → AtMost m b → AtMost m c → AtMost m d → AtMost (m * m + m * m) (minor int_ops a b c d)
 minor_size a b c d = at_most_add (at_most_mul a d) (at_most_neg (at_most_mul b c))
@@ -124,3 +125,33 @@ module _ {m : ℕ} (a : Mat3 ℤ) (p : EachEntry (AtMost m) a) where
     third_minor = minor_fits (leb_yes s) p.a21 p.a22 p.a31 p.a32;
     minors = alternating_fits (leb_yes t) p.a11 p.a12 p.a13 (minor_size p.a22 p.a23 p.a32 p.a33) (minor_size p.a21 p.a23 p.a31 p.a33) (minor_size p.a21 p.a22 p.a31 p.a32);
   }
+
+  -- each entry of the adjugate is at most 2 m²
+  pub adjugate_size : EachEntry (AtMost (m * m + m * m)) (adjugate int_ops a)
+  adjugate_size = record {
+    a11 = minor_size p.a22 p.a23 p.a32 p.a33;
+    a12 = minor_size p.a13 p.a12 p.a33 p.a32;
+    a13 = minor_size p.a12 p.a13 p.a22 p.a23;
+    a21 = minor_size p.a23 p.a21 p.a33 p.a31;
+    a22 = minor_size p.a11 p.a13 p.a31 p.a33;
+    a23 = minor_size p.a13 p.a11 p.a23 p.a21;
+    a31 = minor_size p.a21 p.a22 p.a31 p.a32;
+    a32 = minor_size p.a12 p.a11 p.a32 p.a31;
+    a33 = minor_size p.a11 p.a12 p.a21 p.a22;
+  }
+
+  -- the adjugate's terms are at most N where 2 m² is
+  pub adjugate_fits : {N : ℕ} → T (leb (m * m + m * m) N) → AdjugateFits int_ops (AtMost N) a
+  adjugate_fits {N} t =
+      let h : m * m + m * m ≤ N = leb_yes t in
+      record {
+        a11 = minor_fits h p.a22 p.a23 p.a32 p.a33;
+        a12 = minor_fits h p.a13 p.a12 p.a33 p.a32;
+        a13 = minor_fits h p.a12 p.a13 p.a22 p.a23;
+        a21 = minor_fits h p.a23 p.a21 p.a33 p.a31;
+        a22 = minor_fits h p.a11 p.a13 p.a31 p.a33;
+        a23 = minor_fits h p.a13 p.a11 p.a23 p.a21;
+        a31 = minor_fits h p.a21 p.a22 p.a31 p.a32;
+        a32 = minor_fits h p.a12 p.a11 p.a32 p.a31;
+        a33 = minor_fits h p.a11 p.a12 p.a21 p.a22;
+      }

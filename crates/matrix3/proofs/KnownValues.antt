@@ -1,7 +1,6 @@
 -- The formulas at two matrices of integers.
 use Rattle.std.proofs.Common.{◌≡◌, ℤ, pos, negsuc, refl}
 use Rattle.ring.specs.Ring.{int_ops}
-use Rattle.matrix3.specs.declared.vector.Vec3.{Vec3}
 use Rattle.matrix3.specs.declared.matrix.Mat3.{Mat3}
 use Rattle.matrix3.specs.Matrices.{product, image, determinant, adjugate}
 

@@ -1,3 +1,4 @@
 pub mod MatrixLaws
 pub mod FitsBySize
 mod KnownValues
+mod InverseLemmas

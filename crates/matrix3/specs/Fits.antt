@@ -4,6 +4,7 @@
 --   ProductFits a b      what the matrix product asks
 --   ImageFits a v        what the matrix applied to a column asks
 --   DeterminantFits a    what the determinant by six terms asks
+--   AdjugateFits a       what the nine signed minors ask
 -- Each names the products and sums in the order in which the formula takes them, from the left.
 use Rattle.std.specs.Prelude.{◌≡◌, ℕ}
 use Rattle.ring.specs.Ring.{Ops}
@@ -86,3 +87,15 @@ module _ {R : Type 0} (o : Ops R) (fits : R → Type 0) where
     pub second_minor : MinorFits a.a21 a.a23 a.a31 a.a33
     pub third_minor : MinorFits a.a21 a.a22 a.a31 a.a32
     pub minors : AlternatingFits a.a11 a.a12 a.a13 (minor o a.a22 a.a23 a.a32 a.a33) (minor o a.a21 a.a23 a.a31 a.a33) (minor o a.a21 a.a22 a.a31 a.a32)
+
+  -- for the nine signed minors, each without one row and one column
+  pub record AdjugateFits (a : Mat3 R) : Type 0 where
+    pub a11 : MinorFits a.a22 a.a23 a.a32 a.a33
+    pub a12 : MinorFits a.a13 a.a12 a.a33 a.a32
+    pub a13 : MinorFits a.a12 a.a13 a.a22 a.a23
+    pub a21 : MinorFits a.a23 a.a21 a.a33 a.a31
+    pub a22 : MinorFits a.a11 a.a13 a.a31 a.a33
+    pub a23 : MinorFits a.a13 a.a11 a.a23 a.a21
+    pub a31 : MinorFits a.a21 a.a22 a.a31 a.a32
+    pub a32 : MinorFits a.a12 a.a11 a.a32 a.a31
+    pub a33 : MinorFits a.a11 a.a12 a.a21 a.a22

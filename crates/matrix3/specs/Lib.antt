@@ -1,2 +1,4 @@
 pub mod Matrices
 pub mod Fits
+pub mod Laws
+pub mod Inverse

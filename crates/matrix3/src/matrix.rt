@@ -1,8 +1,8 @@
 // Three by three matrices.
 
 ghost use Rattle.std.specs.Prelude.{◌≡◌};
-ghost use Rattle.matrix3.specs.Matrices.{dot, minor, alternating, product, image, transposed, determinant, matrix_map, vector_map};
-ghost use Rattle.matrix3.specs.Fits.{FiveOfModulus, MatrixOfModulus, VectorOfModulus, DotFits, MinorFits, AlternatingFits, ProductFits, ImageFits, DeterminantFits};
+ghost use Rattle.matrix3.specs.Matrices.{dot, minor, alternating, product, image, transposed, determinant, adjugate, matrix_map, vector_map};
+ghost use Rattle.matrix3.specs.Fits.{FiveOfModulus, MatrixOfModulus, VectorOfModulus, DotFits, MinorFits, AlternatingFits, ProductFits, ImageFits, DeterminantFits, AdjugateFits};
 
 use crate::vector::Vec3;
 use exact_num::Exact;
@@ -130,5 +130,29 @@ impl<T: Exact> Mat3<T> {
         let second = minor(a.a21, a.a23, a.a31, a.a33);
         let third = minor(a.a21, a.a22, a.a31, a.a32);
         alternating(a.a11, a.a12, a.a13, first, second, third)
+    }
+
+    /// The adjugate: the matrix of signed minors, whose product with this one is the determinant times the identity.
+    ///
+    /// Entry (i, j) is the signed minor without row j and column i. Asks that the products and differences of the nine
+    /// minors are values of the type, all of one modulus.
+    pub fn adjugate(&self) -> Mat3<T>
+        requires one_modulus { MatrixOfModulus T.modulus (T.modulus self.now.a11) self.now }
+        requires fits { AdjugateFits (T.ring (T.modulus self.now.a11)) T.fits (matrix_map T.meaning self.now) }
+        ensures value { matrix_map T.meaning result ≡ adjugate (T.ring (T.modulus self.now.a11)) (matrix_map T.meaning self.now) }
+        ensures modulus { MatrixOfModulus T.modulus (T.modulus self.now.a11) result }
+    {
+        let a = *self;
+        Mat3 {
+            a11: minor(a.a22, a.a23, a.a32, a.a33),
+            a12: minor(a.a13, a.a12, a.a33, a.a32),
+            a13: minor(a.a12, a.a13, a.a22, a.a23),
+            a21: minor(a.a23, a.a21, a.a33, a.a31),
+            a22: minor(a.a11, a.a13, a.a31, a.a33),
+            a23: minor(a.a13, a.a11, a.a23, a.a21),
+            a31: minor(a.a21, a.a22, a.a31, a.a32),
+            a32: minor(a.a12, a.a11, a.a32, a.a31),
+            a33: minor(a.a11, a.a12, a.a21, a.a22),
+        }
     }
 }

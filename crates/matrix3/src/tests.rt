@@ -1,11 +1,13 @@
-// One product, image, transpose and determinant, against values from outside.
+// Each call at each type, against values worked by hand.
 
 ghost use Rattle.std.specs.Prelude.{◌≡◌};
 ghost use Rattle.ring.specs.Size.{AtMost};
+ghost use Rattle.exact_num.specs.Meanings.{modulus_of};
 ghost use Rattle.matrix3.specs.Matrices.{EachEntry, EachCoordinate};
+ghost use Rattle.matrix3.specs.Fits.{MatrixOfModulus, VectorOfModulus};
 
 use super::*;
-use exact_num::Int;
+use exact_num::{Exact, Frac, Int, Residue};
 
 fn int(v: i8) -> Int
     ensures { AtMost 128 result }
@@ -60,6 +62,130 @@ fn determinant(a: [[i8; 3]; 3]) -> i128 {
     matrix(a).handed().get()
 }
 
+fn adjugate(a: [[i8; 3]; 3]) -> [[i128; 3]; 3] {
+    rows(matrix(a).adjugate())
+}
+
+fn inverse(a: [[i8; 3]; 3]) -> Option<[[i128; 3]; 3]> {
+    let a = matrix(a);
+    if a.handed().get().abs() == 1 {
+        Some(rows(a.inverse_unit()))
+    } else {
+        None
+    }
+}
+
+fn residue(v: i8) -> Residue
+    ensures { modulus_of result ≡ 7 }
+{
+    Residue::new(v as i128, 7)
+}
+
+fn matrix_of_residues(r: [[i8; 3]; 3]) -> Mat3<Residue>
+    ensures { MatrixOfModulus modulus_of 7 result }
+{
+    Mat3 {
+        a11: residue(r[0][0]),
+        a12: residue(r[0][1]),
+        a13: residue(r[0][2]),
+        a21: residue(r[1][0]),
+        a22: residue(r[1][1]),
+        a23: residue(r[1][2]),
+        a31: residue(r[2][0]),
+        a32: residue(r[2][1]),
+        a33: residue(r[2][2]),
+    }
+}
+
+fn column_of_residues(v: [i8; 3]) -> Vec3<Residue>
+    ensures { VectorOfModulus modulus_of 7 result }
+{
+    Vec3 {
+        x: residue(v[0]),
+        y: residue(v[1]),
+        z: residue(v[2]),
+    }
+}
+
+fn residue_rows(a: Mat3<Residue>) -> [[u32; 3]; 3] {
+    [
+        [a.a11.get(), a.a12.get(), a.a13.get()],
+        [a.a21.get(), a.a22.get(), a.a23.get()],
+        [a.a31.get(), a.a32.get(), a.a33.get()],
+    ]
+}
+
+fn residue_product(a: [[i8; 3]; 3], b: [[i8; 3]; 3]) -> [[u32; 3]; 3] {
+    residue_rows(matrix_of_residues(a).times(&matrix_of_residues(b)))
+}
+
+fn residue_image(a: [[i8; 3]; 3], v: [i8; 3]) -> [u32; 3] {
+    let w = matrix_of_residues(a).apply(&column_of_residues(v));
+    [w.x.get(), w.y.get(), w.z.get()]
+}
+
+fn residue_determinant(a: [[i8; 3]; 3]) -> u32 {
+    matrix_of_residues(a).handed().get()
+}
+
+fn residue_adjugate(a: [[i8; 3]; 3]) -> [[u32; 3]; 3] {
+    residue_rows(matrix_of_residues(a).adjugate())
+}
+
+fn terms(a: Frac) -> (i128, i128) {
+    (a.num(), a.den())
+}
+
+fn first_row(a: Mat3<Frac>) -> [(i128, i128); 3] {
+    [terms(a.a11), terms(a.a12), terms(a.a13)]
+}
+
+fn diagonal(a: Mat3<Frac>) -> [(i128, i128); 3] {
+    [terms(a.a11), terms(a.a22), terms(a.a33)]
+}
+
+// Of a = (1, 1/2, 0), (0, 1/2, 0), (0, 0, -1): the first row and the diagonal of a a, aᵀ, adj(a) and the inverse, and the
+// image of (1/2, 1/2, 1) with the determinant.
+fn calls_on_halves() -> Option<[[(i128, i128); 3]; 10]> {
+    let half = Frac::new(1, 2)?;
+    let one = half.one_like();
+    let zero = half.zero_like();
+    let a = Mat3 {
+        a11: one,
+        a12: half,
+        a13: zero,
+        a21: zero,
+        a22: half,
+        a23: zero,
+        a31: zero,
+        a32: zero,
+        a33: -one,
+    };
+    let v = Vec3 {
+        x: half,
+        y: half,
+        z: one,
+    };
+    let square = a.times(&a);
+    let image = a.apply(&v);
+    let turned = a.transpose();
+    let minors = a.adjugate();
+    let determinant = terms(a.handed());
+    let inverse = a.inverse()?;
+    Some([
+        first_row(square),
+        diagonal(square),
+        first_row(turned),
+        diagonal(turned),
+        first_row(minors),
+        diagonal(minors),
+        first_row(inverse),
+        diagonal(inverse),
+        [terms(image.x), terms(image.y), terms(image.z)],
+        [determinant, determinant, determinant],
+    ])
+}
+
 #[test]
 fn matrices_of_integers(rt: HostRuntime) {
     let a = [[1, 2, 3], [4, 5, 6], [7, 8, 10]];
@@ -73,4 +199,52 @@ fn matrices_of_integers(rt: HostRuntime) {
     );
     assert_eq!(rt; determinant(a), -3);
     assert_eq!(rt; determinant(b), 5);
+    assert_eq!(rt; adjugate(a), [[2, 4, -3], [2, -11, 6], [-3, 6, -3]]);
+}
+
+#[test]
+fn inverse_matrices(rt: HostRuntime) {
+    assert_eq!(rt;
+        inverse([[1, 2, 3], [0, 1, 4], [5, 6, 0]]),
+        Some([[-24, 18, 5], [20, -15, -4], [-5, 4, 1]])
+    );
+    assert_eq!(rt;
+        inverse([[0, 1, 0], [1, 1, 0], [0, 2, 1]]),
+        Some([[-1, 1, 0], [1, 0, 0], [-2, 0, 1]])
+    );
+    assert_eq!(rt; inverse([[1, 2, 3], [4, 5, 6], [7, 8, 10]]), None);
+}
+
+// The same matrices as in the table of integers, whose values are taken modulo 7.
+#[test]
+fn matrices_of_residues(rt: HostRuntime) {
+    let a = [[1, 2, 3], [4, 5, 6], [7, 8, 10]];
+    let b = [[2, 0, -1], [1, 3, 0], [0, 1, 1]];
+    assert_eq!(rt; residue_product(a, b), [[4, 2, 2], [6, 0, 2], [1, 6, 3]]);
+    assert_eq!(rt; residue_image(a, [1, -1, 2]), [5, 4, 5]);
+    assert_eq!(rt;
+        residue_rows(matrix_of_residues(a).transpose()),
+        [[1, 4, 0], [2, 5, 1], [3, 6, 3]]
+    );
+    assert_eq!(rt; residue_determinant(a), 4);
+    assert_eq!(rt; residue_adjugate(a), [[2, 4, 4], [2, 3, 6], [4, 6, 4]]);
+}
+
+#[test]
+fn a_matrix_of_fractions(rt: HostRuntime) {
+    assert_eq!(rt;
+        calls_on_halves(),
+        Some([
+            [(1, 1), (3, 4), (0, 1)],
+            [(1, 1), (1, 4), (1, 1)],
+            [(1, 1), (0, 1), (0, 1)],
+            [(1, 1), (1, 2), (-1, 1)],
+            [(-1, 2), (1, 2), (0, 1)],
+            [(-1, 2), (-1, 1), (1, 2)],
+            [(1, 1), (-1, 1), (0, 1)],
+            [(1, 1), (2, 1), (-1, 1)],
+            [(3, 4), (1, 4), (-1, 1)],
+            [(-1, 2), (-1, 2), (-1, 2)],
+        ])
+    );
 }
