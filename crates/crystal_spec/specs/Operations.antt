@@ -3,7 +3,8 @@
 --   compare_of a b            the order of operations
 --   IsSymmetryOperation c o   o keeps the crystal, and its translation part is within one cell
 --   ListsAll c os             os is the strictly increasing list of exactly the symmetry operations of c
-use Rattle.std.specs.Prelude.{◌↔◌, ℕ, ℤ, pos, negsuc, ◌≤ℤ◌, ◌<ℤ◌, List, [], ◌∷◌, ◌++◌}
+--   ListsAllSame c os         the same for those that do not reverse time
+use Rattle.std.specs.Prelude.{◌≡◌, ◌↔◌, ℕ, ℤ, pos, negsuc, ◌≤ℤ◌, ◌<ℤ◌, List, [], ◌∷◌, ◌++◌}
 use Rattle.std.specs.declared.cmp.Ordering.{Ordering}
 use Rattle.std.specs.Ordering.{int_cmp}
 use Rattle.std.specs.Cmp.Lexicographic.{slice_cmp}
@@ -50,3 +51,7 @@ pub record IsSymmetryOperation (c : Structure) (o : Operation) : Type 0 where
 pub record ListsAll (c : Structure) (os : List Operation) : Type 0 where
   pub increasing : IsIncreasing compare_of os
   pub exact : (o : Operation) → IsMember o os ↔ IsSymmetryOperation c o
+
+pub record ListsAllSame (c : Structure) (os : List Operation) : Type 0 where
+  pub increasing : IsIncreasing compare_of os
+  pub exact : (o : Operation) → IsMember o os ↔ (IsSymmetryOperation c o × (o.sign ≡ Same))
