@@ -1,0 +1,24 @@
+use Rattle.std.proofs.Common.{rules}
+use Rattle.lattice_iso.specs.Columns.{ListsOfLength}
+use Rattle.lattice_iso.proofs.ByColumns.{tensor_of, isometry_entries, result_listed}
+use Rattle.lattice_iso.proofs.search.isometries.Goals as goal
+
+pub returns-in_err-first-clause-entries : goal.returns-in_err-first-clause-entries
+returns-in_err-first-clause-entries c w k = isometry_entries (tensor_of c.args.metric.now) w c.requires.niggli.main k
+
+pub returns-in_err-second-clause-entries : goal.returns-in_err-second-clause-entries
+returns-in_err-second-clause-entries c w k = isometry_entries (tensor_of c.args.metric.now) w c.requires.niggli.main k
+
+pub returns-in_err-third-clause-entries : goal.returns-in_err-third-clause-entries
+returns-in_err-third-clause-entries c w k = isometry_entries (tensor_of c.args.metric.now) w c.requires.niggli.main k
+
+pub returns-clause-entries : goal.returns-clause-entries
+returns-clause-entries c w k = isometry_entries (tensor_of c.args.metric.now) w c.requires.niggli.main k
+
+pub returns-clause-exact : goal.returns-clause-exact
+returns-clause-exact c =
+    let g = c.matrix-g.result in
+    let first : ListsOfLength g g.a11 c.deref.result.now = search rules in
+    let second : ListsOfLength g g.a22 c.deref-2.result.now = search rules in
+    let third : ListsOfLength g g.a33 c.deref-3.result.now = search rules in
+    result_listed g (tensor_of c.args.metric.now) _ _ _ c.all_of_columns.result c.matrix-g.ensures c.requires.niggli.main first second third c.all_of_columns.ensures.increasing c.all_of_columns.ensures.members

@@ -1,0 +1,2 @@
+pub mod Isometries
+pub mod Columns
