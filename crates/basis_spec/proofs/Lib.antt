@@ -1,0 +1,26 @@
+pub mod MatrixLaws
+pub mod Cancelling
+pub mod Translations
+pub mod OperationBases
+pub mod Residues
+pub mod FirstAtoms
+pub mod PrimitiveCell
+pub mod StepBases
+pub mod StepIndex
+pub mod StepMaking
+pub mod StepLists
+pub mod Counting
+pub mod StepCount
+pub mod StepSizes
+pub mod StepEntries
+pub mod PureTranslations
+pub mod Candidates
+pub mod Positive
+pub mod PrimitiveAtoms
+pub mod WholeMaps
+pub mod OperationLists
+pub mod CarriedOperations
+pub mod TranslationLists
+pub mod PrimitiveBases
+pub mod AllOperations
+mod KnownValues

@@ -1,0 +1,105 @@
+-- The atoms of the cell in another basis are within it, no two at one position; and inverse changes of basis.
+use Rattle.std.proofs.lemmas.List.{length-map}
+use Rattle.crystal_spec.specs.Increasing.{IsDistinct}
+use Rattle.crystal_spec.proofs.Images.{IsApart, same_within}
+use Rattle.basis_spec.proofs.PrimitiveCell.{differs_at, differs_itself}
+use Rattle.std.proofs.Common.{suc, length, ◌≤◌, ◌≡◌, ℕ, Bool, true, false, ℤ, pos, ◌<ℤ◌, List, [], ◌∷◌, map, refl, sym, ap, subst, ◌∙◌, inl, inr, arith}
+use Rattle.std.proofs.lemmas.Int.{ints}
+use Rattle.crystal_spec.specs.Matrices.{Triple, Matrix, product, image, determinant, adjugate, multiple, identity}
+use Rattle.basis_spec.specs.Metrics.{matrix_multiple}
+use Rattle.crystal_spec.specs.Crystals.{Site, Structure}
+use Rattle.crystal_spec.specs.Increasing.{IsMember}
+use Rattle.crystal_spec.specs.Operations.{IsWithinCell}
+use Rattle.basis_spec.specs.Bases.{IsCell, IsBack, is_same_position, without_position, first_at_each_position, site_in_basis, cell_in_basis, HasOneAtomEach}
+use Rattle.basis_spec.proofs.MatrixLaws.{image-product, image-identity, image-multiple, image-matrix_multiple, same_images}
+use Rattle.basis_spec.proofs.Cancelling.{image_cancel}
+use Rattle.basis_spec.proofs.Residues.{residue_within}
+use Rattle.basis_spec.proofs.FirstAtoms.{same_position_decides, member_of_without, member_of_firsts, mapped_from}
+use Rattle.basis_spec.proofs.PureTranslations.{translations_same}
+use Rattle.crystal_spec.proofs.Isometries.{image-adjugate}
+
+not_there : (p : Triple) (b : Site) (sites : List Site) → IsMember b (without_position p sites) → p ≡ b.position → ⊥
+not_there p b [] m e = m
+not_there p b (x ∷ sites) m e = by (is_same_position p x.position) refl m (λ k. not_there p b sites k e)
+  where
+    by : (w : Bool) → is_same_position p x.position ≡ w → IsMember b (elim w [ true ↦ without_position p sites | false ↦ x ∷ without_position p sites ]) → (IsMember b (without_position p sites) → ⊥) → ⊥
+    by true f k rec = rec k
+    by false f (inl g) rec = cc (sym f ∙ (same_position_decides p x.position).1 (e ∙ ap (λ (s : Site). s.position) g))
+    by false f (inr k) rec = rec k
+
+one_at_each : (a b : Site) (sites : List Site) → IsMember a (first_at_each_position sites) → IsMember b (first_at_each_position sites) → a.position ≡ b.position → a ≡ b
+one_at_each a b [] m k e = absurd m
+one_at_each a b (x ∷ sites) (inl f) (inl g) e = f ∙ sym g
+one_at_each a b (x ∷ sites) (inl f) (inr k) e = absurd (not_there x.position b (first_at_each_position sites) k (ap (λ (s : Site). s.position) (sym f) ∙ e))
+one_at_each a b (x ∷ sites) (inr m) (inl g) e = absurd (not_there x.position a (first_at_each_position sites) m (ap (λ (s : Site). s.position) (sym g) ∙ sym e))
+one_at_each a b (x ∷ sites) (inr m) (inr k) e = one_at_each a b sites (member_of_without x.position a (first_at_each_position sites) m) (member_of_without x.position b (first_at_each_position sites) k) e
+
+without_distinct : (p : Triple) (sites : List Site) → IsDistinct sites → IsDistinct (without_position p sites)
+without_distinct p [] d = tt
+without_distinct p (x ∷ sites) d = by (is_same_position p x.position) (without_distinct p sites d.1)
+  where
+    by : (w : Bool) → IsDistinct (without_position p sites) → IsDistinct (elim w [ true ↦ without_position p sites | false ↦ x ∷ without_position p sites ])
+    by true h = h
+    by false h = ((λ m. d.0 (member_of_without p x sites m)), h)
+
+-- no atom is there twice
+pub firsts_distinct : (sites : List Site) → IsDistinct (first_at_each_position sites)
+firsts_distinct [] = tt
+firsts_distinct (a ∷ sites) = ((λ m. not_there a.position a (first_at_each_position sites) m refl), without_distinct a.position (first_at_each_position sites) (firsts_distinct sites))
+
+without_length : (p : Triple) (sites : List Site) → length (without_position p sites) ≤ length sites
+without_length p [] = omega arith
+without_length p (x ∷ sites) = by (is_same_position p x.position) (without_length p sites)
+  where
+    by : (w : Bool) → length (without_position p sites) ≤ length sites → length {A = Site} (elim w [ true ↦ without_position p sites | false ↦ x ∷ without_position p sites ]) ≤ suc (length sites)
+    by true h = omega (arith, h)
+    by false h = omega (arith, h)
+
+-- the list is no longer than the one it is made of
+pub firsts_length : (sites : List Site) → length (first_at_each_position sites) ≤ length sites
+firsts_length [] = omega arith
+firsts_length (a ∷ sites) =
+    let h = without_length a.position (first_at_each_position sites) in
+    let k = firsts_length sites in
+    omega (arith, h, k)
+
+-- so the cell in another basis has no more atoms than the cell
+pub fewer_atoms : (c : Structure) (r : Matrix) → length (cell_in_basis c r).sites ≤ length c.sites
+unfolding cell_in_basis
+fewer_atoms c r =
+    let h = firsts_length (map (site_in_basis c.n r) c.sites) in
+    let e = length-map c.sites (site_in_basis c.n r) in
+    omega (arith, h, e)
+
+-- atoms within the cell and apart are one at each position
+pub one_atom_each_of_apart : (c : Structure) → IsApart c → HasOneAtomEach c
+one_atom_each_of_apart c h a b m k d = h.told a b m k (same_within c.n a.position b.position d.cells (h.within a m) (h.within b k) d.is)
+
+-- and conversely, in a list of atoms without repeats
+pub apart_of_cell : (c : Structure) → IsCell c → IsDistinct c.sites → IsApart c
+apart_of_cell c cell d = record { within = cell.within; told = λ a b m k e. cell.one_atom_each a b m k (differs_at refl e (differs_itself c.n a.position)); distinct = d }
+
+-- each position is within the cell
+pub position_within : (c : Structure) (r : Matrix) → pos 0 <ℤ pos c.n → (a : Site) → IsMember a (first_at_each_position (map (site_in_basis c.n r) c.sites)) → IsWithinCell c.n a.position
+position_within c r some a m =
+    let f = mapped_from (site_in_basis c.n r) a c.sites (member_of_firsts a (map (site_in_basis c.n r) c.sites) m) in
+    subst (IsWithinCell c.n) (sym (ap (λ (s : Site). s.position) f.is)) (residue_within c.n (image r f.item.position) some)
+
+-- no two atoms of the cell in another basis are at one position
+pub cell_in_basis_one_atom_each : (c : Structure) (r : Matrix) → pos 0 <ℤ pos c.n → HasOneAtomEach (cell_in_basis c r)
+unfolding cell_in_basis
+cell_in_basis_one_atom_each c r some a b m k d = one_at_each a b (map (site_in_basis c.n r) c.sites) m k (translations_same c.n a.position b.position (position_within c r some a m) (position_within c r some b k) d)
+
+-- n · fore is index · steps
+pub fore_steps : (n : ℕ) (in_it : Triple → Type 0) (r : Matrix) (b : IsBack n in_it r) → matrix_multiple (pos n) (adjugate r) ≡ matrix_multiple (determinant r) b.steps
+fore_steps n in_it r b = same_images (matrix_multiple (pos n) (adjugate r)) (matrix_multiple (determinant r) b.steps) (λ v.
+    image-matrix_multiple (pos n) (adjugate r) v ∙ sym (image-multiple (adjugate r) (pos n) v) ∙ ap (image (adjugate r)) (sym (sym (image-product r b.steps v) ∙ ap (λ a. image a v) b.whole ∙ image-matrix_multiple (pos n) identity v ∙ ap (multiple (pos n)) (image-identity v)))
+    ∙ image-adjugate r (image b.steps v) ∙ sym (image-matrix_multiple (determinant r) b.steps v))
+
+one_above : (h : ℤ) → h ≡ pos 1 → pos 0 <ℤ h
+one_above h e = subst (λ (z : ℤ). pos 0 <ℤ z) (sym e) (omega (arith, ints))
+
+-- an inverse on one side is one on the other
+pub inverse_turned : (base q : Matrix) → determinant base ≡ pos 1 → product base q ≡ identity → product q base ≡ identity
+inverse_turned base q one e = same_images (product q base) identity (λ v.
+    image-product q base v ∙ image_cancel base (image q (image base v)) v (one_above (determinant base) one) (sym (image-product base q (image base v)) ∙ ap (λ a. image a (image base v)) e ∙ image-identity (image base v)) ∙ sym (image-identity v))

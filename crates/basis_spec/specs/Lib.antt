@@ -1,0 +1,6 @@
+pub mod Positions
+pub mod Metrics
+pub mod Translations
+pub mod Bases
+pub mod StepBases
+pub mod Carrying
