@@ -1,2 +1,4 @@
 pub mod Views
 pub mod Lists
+pub mod Composition
+pub mod Groups

@@ -1,46 +1,59 @@
-use crate::{Op, OpList, compare};
+ghost use Rattle.ring.specs.Size.{AtMost};
+ghost use Rattle.matrix3.specs.Matrices.{EachEntry};
+
+use crate::{Op, OpList, compare, compose, inverse};
 use crystal_spec::Sign;
 use exact_num::Int;
 use matrix3::Mat3;
 use std::cmp::Ordering;
 use std::test::Fail;
 
-fn whole(value: i128) -> Result<Int, Fail> {
-    Ok(Int::new(value).ok_or("the number is too large")?)
+type Rows = [[i8; 3]; 3];
+
+const IDENTITY: Rows = [[1, 0, 0], [0, 1, 0], [0, 0, 1]];
+
+const HALF_TURN: Rows = [[-1, 0, 0], [0, -1, 0], [0, 0, 1]];
+
+const QUARTER_TURN: Rows = [[0, -1, 0], [1, 0, 0], [0, 0, 1]];
+
+const BACKWARD_QUARTER_TURN: Rows = [[0, 1, 0], [-1, 0, 0], [0, 0, 1]];
+
+fn whole(value: i8) -> Int
+    ensures { AtMost 128 result }
+{
+    Int::new(value as i128).unwrap()
 }
 
-fn operation(rows: [[i128; 3]; 3], shift: [u32; 3], sign: Sign) -> Result<Op, Fail> {
+fn operation(rows: Rows, shift: [u32; 3], sign: Sign) -> Op
+    ensures { EachEntry (AtMost 128) result.w }
+{
     let [[a11, a12, a13], [a21, a22, a23], [a31, a32, a33]] = rows;
     let w = Mat3 {
-        a11: whole(a11)?,
-        a12: whole(a12)?,
-        a13: whole(a13)?,
-        a21: whole(a21)?,
-        a22: whole(a22)?,
-        a23: whole(a23)?,
-        a31: whole(a31)?,
-        a32: whole(a32)?,
-        a33: whole(a33)?,
+        a11: whole(a11),
+        a12: whole(a12),
+        a13: whole(a13),
+        a21: whole(a21),
+        a22: whole(a22),
+        a23: whole(a23),
+        a31: whole(a31),
+        a32: whole(a32),
+        a33: whole(a33),
     };
-    Ok(Op { w, shift, sign })
+    Op { w, shift, sign }
 }
 
-const IDENTITY: [[i128; 3]; 3] = [[1, 0, 0], [0, 1, 0], [0, 0, 1]];
-
 /// Operations with translation parts in quarters, in increasing order.
-fn in_order() -> Result<[Op; 7], Fail> {
-    let half_turn = [[-1, 0, 0], [0, -1, 0], [0, 0, 1]];
-    let quarter_turn = [[0, -1, 0], [1, 0, 0], [0, 0, 1]];
+fn in_order() -> [Op; 7] {
     let skew = [[1, 0, 0], [0, 1, 0], [0, 7, -50]];
-    Ok([
-        operation(half_turn, [3, 3, 3], Sign::Reversed)?,
-        operation(quarter_turn, [0, 0, 0], Sign::Same)?,
-        operation(IDENTITY, [0, 0, 0], Sign::Same)?,
-        operation(IDENTITY, [0, 0, 0], Sign::Reversed)?,
-        operation(IDENTITY, [0, 0, 1], Sign::Same)?,
-        operation(IDENTITY, [2, 0, 0], Sign::Same)?,
-        operation(skew, [0, 0, 0], Sign::Same)?,
-    ])
+    [
+        operation(HALF_TURN, [3, 3, 3], Sign::Reversed),
+        operation(QUARTER_TURN, [0, 0, 0], Sign::Same),
+        operation(IDENTITY, [0, 0, 0], Sign::Same),
+        operation(IDENTITY, [0, 0, 0], Sign::Reversed),
+        operation(IDENTITY, [0, 0, 1], Sign::Same),
+        operation(IDENTITY, [2, 0, 0], Sign::Same),
+        operation(skew, [0, 0, 0], Sign::Same),
+    ]
 }
 
 fn put(list: &mut OpList, op: Op) -> Result<bool, Fail> {
@@ -54,20 +67,19 @@ fn put(list: &mut OpList, op: Op) -> Result<bool, Fail> {
 }
 
 #[test]
-fn each_operation_is_less_than_the_next(rt: HostRuntime) -> Result<(), Fail> {
-    let [mut last, b, c, d, e, f, g] = in_order()?;
+fn each_operation_is_less_than_the_next(rt: HostRuntime) {
+    let [mut last, b, c, d, e, f, g] = in_order();
     for op in &[b, c, d, e, f, g] {
         assert_eq!(rt; compare(&last, op), Ordering::Less);
         assert_eq!(rt; compare(op, &last), Ordering::Greater);
         assert_eq!(rt; compare(op, op), Ordering::Equal);
         last = *op;
     }
-    Ok(())
 }
 
 #[test]
 fn a_list_is_in_order_and_has_each_operation_once(rt: HostRuntime) -> Result<(), Fail> {
-    let [a, b, c, d, e, f, g] = in_order()?;
+    let [a, b, c, d, e, f, g] = in_order();
     let mut list = OpList::new(rt.alloc(), 4);
     for op in &[e, a, g, c, b, f] {
         assert!(rt; !list.has(op));
@@ -83,4 +95,96 @@ fn a_list_is_in_order_and_has_each_operation_once(rt: HostRuntime) -> Result<(),
     }
     assert!(rt; list.ops() == [a, b, c, e, f, g].as_slice());
     Ok(())
+}
+
+/// First the one and then the other, in quarters.
+fn in_turn(first: (Rows, [u32; 3], Sign), next: (Rows, [u32; 3], Sign)) -> Op {
+    let first = operation(first.0, first.1, first.2);
+    let next = operation(next.0, next.1, next.2);
+    compose(4, &first, &next)
+}
+
+/// The inverse in quarters, or `None` where the determinant is neither 1 nor -1.
+fn undone(rows: Rows, shift: [u32; 3], sign: Sign) -> Option<Op> {
+    let op = operation(rows, shift, sign);
+    if op.w.handed().get().abs() == 1 {
+        Some(inverse(4, &op))
+    } else {
+        None
+    }
+}
+
+#[test]
+fn one_operation_after_another(rt: HostRuntime) {
+    let mirror_across_c = [[1, 0, 0], [0, 1, 0], [0, 0, -1]];
+    let quarter_turn = (QUARTER_TURN, [0, 0, 0], Sign::Same);
+    let translation = (IDENTITY, [1, 0, 0], Sign::Same);
+    let screw = (HALF_TURN, [0, 0, 1], Sign::Same);
+    let glide = (mirror_across_c, [3, 0, 0], Sign::Same);
+    let reversal = (IDENTITY, [0, 0, 0], Sign::Reversed);
+    for (i, (first, next, both)) in [
+        (
+            quarter_turn,
+            translation,
+            (QUARTER_TURN, [1, 0, 0], Sign::Same),
+        ),
+        (
+            translation,
+            quarter_turn,
+            (QUARTER_TURN, [0, 1, 0], Sign::Same),
+        ),
+        (screw, screw, (IDENTITY, [0, 0, 2], Sign::Same)),
+        (glide, glide, (IDENTITY, [2, 0, 0], Sign::Same)),
+        (screw, reversal, (HALF_TURN, [0, 0, 1], Sign::Reversed)),
+        (reversal, screw, (HALF_TURN, [0, 0, 1], Sign::Reversed)),
+        (reversal, reversal, (IDENTITY, [0, 0, 0], Sign::Same)),
+    ]
+    .iter()
+    .enumerate()
+    {
+        let (rows, shift, sign) = *both;
+        assert!(rt;
+            in_turn(*first, *next) == operation(rows, shift, sign),
+            "pair {i}"
+        );
+    }
+}
+
+#[test]
+fn inverses(rt: HostRuntime) {
+    let rotoinversion = [[0, 1, 0], [-1, 0, 0], [0, 0, -1]];
+    let rotoinversion_back = [[0, -1, 0], [1, 0, 0], [0, 0, -1]];
+    for (i, (rows, shift, sign, back, shift_back)) in [
+        (
+            QUARTER_TURN,
+            [0, 0, 1],
+            Sign::Same,
+            BACKWARD_QUARTER_TURN,
+            [0, 0, 3],
+        ),
+        (
+            QUARTER_TURN,
+            [1, 0, 1],
+            Sign::Same,
+            BACKWARD_QUARTER_TURN,
+            [0, 1, 3],
+        ),
+        (
+            rotoinversion,
+            [1, 2, 3],
+            Sign::Same,
+            rotoinversion_back,
+            [2, 3, 3],
+        ),
+        (IDENTITY, [1, 0, 0], Sign::Reversed, IDENTITY, [3, 0, 0]),
+    ]
+    .iter()
+    .enumerate()
+    {
+        let expected = operation(*back, *shift_back, *sign);
+        assert!(rt;
+            undone(*rows, *shift, *sign) == Some(expected),
+            "operation {i}"
+        );
+    }
 }
