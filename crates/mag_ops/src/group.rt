@@ -1,9 +1,10 @@
 ghost use Rattle.std.specs.Prelude.{◌≡◌, ◌↔◌, ◌⊎◌, ◌<◌, length, OnOk, IfOk, IsTrue};
 ghost use Rattle.crystal_spec.specs.Increasing.{IsMember};
-ghost use Rattle.crystal_spec.specs.Operations.{Operation, IsWithinCell, ListsAll};
+ghost use Rattle.crystal_spec.specs.Operations.{Operation, IsWithinCell};
 ghost use Rattle.crystal.specs.Views.{metric_of, triple_of};
 ghost use Rattle.crystal.specs.Bounds.{EntriesAtMost};
 ghost use Rattle.mag_ops.specs.Candidates.{IsKeptAs, IsKeptBy, IsOnto};
+ghost use Rattle.mag_ops.specs.Groups.{ListsGroup};
 ghost use Rattle.mag_ops.specs.RightAngled.{IsRightAngled};
 
 use crate::candidate::{CANDIDATES, candidate};
@@ -40,9 +41,11 @@ fn add_kept<L: Ledger>(
     Ok(())
 }
 
-/// Puts the operations of this matrix that keep the crystal and carry the first atom onto atom number i into the list.
+/// Puts the operations of this matrix that keep the crystal and carry the first atom onto atom number i into the list: with
+/// and without time reversal, or without it alone.
 fn add_kept_onto<L: Ledger>(
     places: &Places,
+    time: bool,
     w: &Mat3<Int>,
     i: usize,
     found: &mut OpList,
@@ -52,7 +55,7 @@ fn add_kept_onto<L: Ledger>(
     requires i { i < length places.now.sites }
     requires found_n { found.old.n ≡ places.now.n }
     ensures n { found.new.n ≡ places.now.n }
-    ensures members { OnOk result ((o : Operation) → IsMember o found.new.operations ↔ (IsOnto places.now w.now i o ⊎ IsMember o found.old.operations)) }
+    ensures members { OnOk result ((o : Operation) → IsMember o found.new.operations ↔ (IsOnto places.now time w.now i o ⊎ IsMember o found.old.operations)) }
 {
     let cell = places.cell();
     let _form = cell.count();
@@ -65,6 +68,9 @@ fn add_kept_onto<L: Ledger>(
     let shift = translation_onto(&w, first.place, atom.place, cell.n());
     let sign = Sign::Same;
     add_kept(places, Op { w, shift, sign }, found, steps)?;
+    if !time {
+        return Ok(());
+    }
     let sign = Sign::Reversed;
     add_kept(places, Op { w, shift, sign }, found, steps)?;
     Ok(())
@@ -74,6 +80,7 @@ fn add_kept_onto<L: Ledger>(
 /// species, so only the translation parts that do so are tried.
 fn add_kept_by<L: Ledger>(
     places: &Places,
+    time: bool,
     w: &Mat3<Int>,
     found: &mut OpList,
     steps: &mut Steps<L>,
@@ -81,7 +88,7 @@ fn add_kept_by<L: Ledger>(
     requires small { EntriesAtMost 1 w.now }
     requires found_n { found.old.n ≡ places.now.n }
     ensures n { found.new.n ≡ places.now.n }
-    ensures members { OnOk result ((o : Operation) → IsMember o found.new.operations ↔ (IsKeptBy places.now w.now o ⊎ IsMember o found.old.operations)) }
+    ensures members { OnOk result ((o : Operation) → IsMember o found.new.operations ↔ (IsKeptBy places.now time w.now o ⊎ IsMember o found.old.operations)) }
 {
     let cell = places.cell();
     let count = cell.count();
@@ -89,27 +96,28 @@ fn add_kept_by<L: Ledger>(
         return Ok(());
     }
     for i in 0..count {
-        add_kept_onto(places, w, i, found, steps)?;
+        add_kept_onto(places, time, w, i, found, steps)?;
     }
     let _first = cell.atom(0);
     Ok(())
 }
 
-/// All operations that keep the crystal, each once in order.
+/// All operations that keep the crystal, each once in order: with those that reverse time, or without them.
 fn all_kept<L: Ledger>(
     alloc: Global,
     places: &Places,
+    time: bool,
     steps: &mut Steps<L>,
 ) -> Result<OpList, AllocError>
     requires right_angled { IsRightAngled places.now.metric }
     ensures n { IfOk result (λ list. list.n ≡ places.now.n) }
-    ensures exact { IfOk result (λ list. ListsAll places.now list.operations) }
+    ensures exact { IfOk result (λ list. ListsGroup places.now time list.operations) }
 {
     let cell = places.cell();
     let _form = cell.count();
     let mut found = OpList::new(alloc, cell.n());
     for number in 0..CANDIDATES {
-        add_kept_by(places, &candidate(number), &mut found, steps)?;
+        add_kept_by(places, time, &candidate(number), &mut found, steps)?;
     }
     let _count = found.count();
     Ok(found)
@@ -117,16 +125,18 @@ fn all_kept<L: Ledger>(
 
 /// All operations that keep the crystal of the cell, each once in order, with n that of the cell.
 ///
-/// The axes are at right angles. Refuses for want of memory alone.
+/// With `time` false only those that do not reverse time, and no map that reverses it is tested. The axes are at right
+/// angles. Refuses for want of memory alone.
 pub fn cell_group<L: Ledger>(
     alloc: Global,
     cell: &Cell,
+    time: bool,
     steps: &mut Steps<L>,
 ) -> Result<OpList, AllocError>
     requires right_angled { IsRightAngled cell.now.metric }
     ensures n { IfOk result (λ list. list.n ≡ cell.now.n) }
-    ensures exact { IfOk result (λ list. ListsAll cell.now list.operations) }
+    ensures exact { IfOk result (λ list. ListsGroup cell.now time list.operations) }
 {
     let places = Places::new(alloc, cell)?;
-    all_kept(alloc, &places, steps)
+    all_kept(alloc, &places, time, steps)
 }

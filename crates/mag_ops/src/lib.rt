@@ -6,5 +6,7 @@
 
 mod candidate;
 mod group;
+#[cfg(test)]
+mod tests;
 
 pub use group::{cell_group, is_right_angled};

@@ -6,7 +6,6 @@ use Rattle.std.specs.declared.result.Result.TheVariants.{Ok, Err}
 use Rattle.std.specs.Io.KnownBytes.{Consumes, IsAtEnd}
 use Rattle.cell_text.specs.Rules.{cell_fault}
 use Rattle.cell_text.specs.CellFile.{Spells}
-use Rattle.magsym.specs.declared.command.Command.TheVariants.{Symmetry}
 use Rattle.magsym.specs.declared.status.Kept.TheVariants.{NoBase}
 use Rattle.magsym.specs.declared.status.Status.{Status}
 use Rattle.magsym.specs.declared.status.Status.TheVariants.{Done, Usage, CellTooLong, CellRefused, NotRightAngled, ReadFault, WriteFault, Memory}
@@ -34,9 +33,9 @@ pub complete_of_outcome : (ws : List (List ℕ)) (s : Streams) (status : Status)
 complete_of_outcome ws s (Done NoBase) o a = tt
 complete_of_outcome ws s Memory o a = tt
 complete_of_outcome ws s (Usage fault) o a =
-    let asked : command ws ≡ Ok Symmetry = a.asked in
+    let asked : command ws ≡ Ok a.asked.request = a.asked.asked in
     let faulty : command ws ≡ Err fault = o in absurd cc
-complete_of_outcome ws s (WriteFault written NoBase) o a = absurd (a.output_works o.1.cause)
+complete_of_outcome ws s (WriteFault written NoBase) o a = absurd (a.output_works o.cause)
 complete_of_outcome ws s ReadFault o a = absurd (a.input_works o.1.cause)
 complete_of_outcome ws s (CellRefused line fault) o a =
     let same = read_is_text s.left s.left_after a.text o.1.text a.is_input o.1.read.taken o.1.read.none_left in

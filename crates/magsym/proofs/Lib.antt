@@ -1,2 +1,4 @@
 mod Complete
 mod TellingLemmas
+pub mod CountLemmas
+pub mod OptionLemmas

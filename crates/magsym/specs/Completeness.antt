@@ -1,22 +1,19 @@
 -- When a run has to write the whole report.
---   IsAnswerable ws s      the words ask for `symmetry`, the input spells right-angled cells alone, and no device fails
+--   IsAnswerable ws s      the words ask for a command, the input spells right-angled cells alone, and no device fails
 --   IsDoneOrMemory status  the whole report is written, or memory was wanting
 use Rattle.std.specs.Prelude.{◌≡◌, ◌≤◌, ℕ, List, length, Some}
-use Rattle.std.specs.declared.result.Result.TheVariants.{Ok}
 use Rattle.io_edge.specs.Causes.{Rose}
 use Rattle.crystal_spec.specs.Crystals.{Structure}
 use Rattle.cell_text.specs.CellFile.{Spells}
 use Rattle.mag_ops.specs.RightAngled.{IsRightAngled}
-use Rattle.magsym.specs.declared.command.Command.TheVariants.{Symmetry}
 use Rattle.magsym.specs.declared.status.Status.{Status}
 use Rattle.magsym.specs.declared.status.Status.TheVariants.{Done, Usage, CellTooLong, CellRefused, NotRightAngled, ReadFault, WriteFault, Memory}
-use Rattle.magsym.specs.Commands.{command}
-use Rattle.magsym.specs.Outcomes.{Streams}
+use Rattle.magsym.specs.Outcomes.{Streams, IsAsked}
 
--- The words ask for `symmetry`; the input tells its bytes, which are at most 262,144 and spell a cell; each cell that they
+-- The words ask for a command; the input tells its bytes, which are at most 262,144 and spell a cell; each cell that they
 -- spell is right-angled; and neither the input nor the output failed.
 pub record IsAnswerable (ws : List (List ℕ)) (s : Streams) : Type 0 where
-  pub asked : command ws ≡ Ok Symmetry
+  pub asked : IsAsked ws
   pub text : List ℕ
   pub is_input : s.left ≡ Some text
   pub short : length text ≤ 262144

@@ -1,7 +1,8 @@
 -- What each status of a run says of the words, the input and the output.
 --   Streams                the input and the output, before and after
 --   ReadWhole s text       all of the input is this text, and its end was seen
---   SymmetryReport c bytes the lines of all symmetry operations of the crystal c
+--   SymmetryReport c time skip most bytes   the lines of a page of the symmetry operations of the crystal c
+--   IsReport command c bytes                the report that the command asks for on the crystal c
 --   IsUsage, IsRefusal     the words were outside the rule; no report was begun
 --   Outcome ws s status    what the status says, for these words and streams
 use Rattle.std.specs.Prelude.{◌≡◌, ℕ, ◌<◌, ◌≤◌, Bool, true, false, List, length, take}
@@ -11,12 +12,14 @@ use Rattle.std.specs.declared.result.Result.TheVariants.{Ok, Err}
 use Rattle.std.specs.Io.KnownBytes.{Appends, Consumes, IsAtEnd}
 use Rattle.io_edge.specs.Causes.{Rose}
 use Rattle.crystal_spec.specs.Crystals.{Structure}
-use Rattle.crystal_spec.specs.Operations.{Operation, ListsAll}
+use Rattle.crystal_spec.specs.Operations.{Operation}
 use Rattle.cell_text.specs.declared.fault.CellFault.{CellFault}
 use Rattle.cell_text.specs.Rules.{cell_fault}
 use Rattle.cell_text.specs.CellFile.{Spells}
+use Rattle.mag_ops.specs.Groups.{ListsGroup}
 use Rattle.mag_ops.specs.RightAngled.{IsRightAngled}
-use Rattle.report_text.specs.OperationText.{lines_text}
+use Rattle.report_text.specs.Pages.{page_text}
+use Rattle.magsym.specs.declared.command.Command.{Command}
 use Rattle.magsym.specs.declared.command.Command.TheVariants.{Symmetry}
 use Rattle.magsym.specs.declared.status.Kept.TheVariants.{NoBase}
 use Rattle.magsym.specs.declared.status.Status.{Status}
@@ -43,31 +46,43 @@ pub record ReadWhole (s : Streams) (text : List ℕ) : Type 0 where
   pub seen : s.end_is_seen ≡ true
   pub short : length text ≤ 262144
 
--- the bytes are the lines of the list of all symmetry operations
-pub record SymmetryReport (c : Structure) (bytes : List ℕ) : Type 0 where
+-- The bytes are the lines of the list of all symmetry operations, or of those that do not reverse time: of the part behind
+-- its first `skip` operations, and of that at most `most` where it is given.
+pub record SymmetryReport (c : Structure) (time : Bool) (skip : ℕ) (most : Option ℕ) (bytes : List ℕ) : Type 0 where
   pub operations : List Operation
-  pub all : ListsAll c operations
-  pub lines : bytes ≡ lines_text c.n operations
+  pub all : ListsGroup c time operations
+  pub lines : bytes ≡ page_text (record { n = c.n; operations = operations }) skip most
 
--- the input is the text of a cell at right angles, and the report is that of its crystal
-pub record Answers (s : Streams) (report : List ℕ) : Type 0 where
+-- the report that the command asks for
+abbrev pub IsReport : Command → Structure → List ℕ → Type 0
+IsReport (Symmetry time skip most) c bytes = SymmetryReport c time skip most bytes
+
+-- the words ask for a command
+pub record IsAsked (ws : List (List ℕ)) : Type 0 where
+  pub request : Command
+  pub asked : command ws ≡ Ok request
+
+-- the input is the text of a cell at right angles, and the report is the one that the words ask for on its crystal
+pub record Answers (ws : List (List ℕ)) (s : Streams) (report : List ℕ) : Type 0 where
+  pub request : Command
+  pub asked : command ws ≡ Ok request
   pub text : List ℕ
   pub read : ReadWhole s text
   pub cell : Structure
   pub spelled : Spells text cell
   pub right_angled : IsRightAngled cell.metric
-  pub is_report : SymmetryReport cell report
+  pub is_report : IsReport request cell report
 
 -- the whole report was appended to the output
-pub record WritesReport (s : Streams) : Type 0 where
+pub record WritesReport (ws : List (List ℕ)) (s : Streams) : Type 0 where
   pub report : List ℕ
-  pub answers : Answers s report
+  pub answers : Answers ws s report
   pub appended : Appends s.held s.held_after report
 
 -- so many first bytes of the report were appended, fewer than all, and the output failed
-pub record WritesPart (s : Streams) (written : ℕ) : Type 0 where
+pub record WritesPart (ws : List (List ℕ)) (s : Streams) (written : ℕ) : Type 0 where
   pub report : List ℕ
-  pub answers : Answers s report
+  pub answers : Answers ws s report
   pub fewer : written < length report
   pub appended : Appends s.held s.held_after (take written report)
   pub cause : Rose s.out_faults s.out_faults_after
@@ -123,14 +138,14 @@ IsRefusal CellTooLong = Unit {0}
 IsRefusal ReadFault = Unit {0}
 IsRefusal Memory = Unit {0}
 
--- Words outside the rule are always answered so. Behind the other statuses the words ask for `symmetry`; a status other
+-- Words outside the rule are always answered so. Behind the other statuses the words ask for a command; a status other
 -- than Done and WriteFault leaves the output as it was. Want of memory alone is free.
 abbrev pub Outcome : List (List ℕ) → Streams → Status → Type 0
 Outcome ws s (Usage fault) = command ws ≡ Err fault
-Outcome ws s (Done NoBase) = (command ws ≡ Ok Symmetry) × WritesReport s
-Outcome ws s (WriteFault written NoBase) = (command ws ≡ Ok Symmetry) × WritesPart s written
-Outcome ws s (CellRefused line fault) = (command ws ≡ Ok Symmetry) × BreaksRule s line fault
-Outcome ws s NotRightAngled = (command ws ≡ Ok Symmetry) × SpellsOblique s
-Outcome ws s CellTooLong = (command ws ≡ Ok Symmetry) × IsTooLong s
-Outcome ws s ReadFault = (command ws ≡ Ok Symmetry) × FailsToRead s
-Outcome ws s Memory = command ws ≡ Ok Symmetry
+Outcome ws s (Done NoBase) = WritesReport ws s
+Outcome ws s (WriteFault written NoBase) = WritesPart ws s written
+Outcome ws s (CellRefused line fault) = IsAsked ws × BreaksRule s line fault
+Outcome ws s NotRightAngled = IsAsked ws × SpellsOblique s
+Outcome ws s CellTooLong = IsAsked ws × IsTooLong s
+Outcome ws s ReadFault = IsAsked ws × FailsToRead s
+Outcome ws s Memory = IsAsked ws

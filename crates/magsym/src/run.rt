@@ -2,7 +2,7 @@ ghost use Rattle.std.specs.Prelude.{◌≡◌, ◌<◌, ◌≤◌, IfOk};
 ghost use Rattle.mag_ops.specs.RightAngled.{IsRightAngled};
 ghost use Rattle.magsym.specs.Statuses.{line_of};
 ghost use Rattle.magsym.specs.Telling.{Tells};
-ghost use Rattle.magsym.specs.Outcomes.{Outcome, SymmetryReport, IsRefusal, IsUsage};
+ghost use Rattle.magsym.specs.Outcomes.{Outcome, IsReport, IsRefusal, IsUsage};
 ghost use Rattle.magsym.specs.Completeness.{IsAnswerable, IsDoneOrMemory};
 
 use crate::command::{Command, read_words};
@@ -20,17 +20,23 @@ use std::sync::ledger::{Blank, Ledger};
 /// The most bytes that the text of a cell can have.
 const CELL_LIMIT: usize = 262144;
 
-/// The report on all symmetry operations of a cell whose axes are at right angles.
-fn symmetry_report<L: Ledger>(
+/// The report that the command asks for, on a cell whose axes are at right angles.
+fn report<L: Ledger>(
     alloc: Global,
+    command: Command,
     cell: &Cell,
     steps: &mut Steps<L>,
 ) -> Result<Bytes, AllocError>
     requires { IsRightAngled cell.now.metric }
-    ensures { IfOk result (SymmetryReport cell.now) }
+    ensures { IfOk result (IsReport command cell.now) }
 {
-    let list = cell_group(alloc, cell, steps)?;
-    ops_report(alloc, &list)
+    let Command::Symmetry { time, skip, take } = command;
+    let list = cell_group(alloc, cell, time, steps)?;
+    let take = match take {
+        Some(most) => Some(most as u64),
+        None => None,
+    };
+    ops_report(alloc, &list, skip as u64, take)
 }
 
 /// The answer to the words, but for the line on the error stream.
@@ -47,7 +53,7 @@ fn answer<I: Source, O: Sink, L: Ledger>(
     ensures in_later { I.faults input.old ≤ I.faults input.new }
     ensures out_later { O.faults out.old ≤ O.faults out.new }
 {
-    let Command::Symmetry = match read_words(words) {
+    let command = match read_words(words) {
         Ok(command) => command,
         Err(fault) => return Status::Usage(fault),
     };
@@ -65,7 +71,7 @@ fn answer<I: Source, O: Sink, L: Ledger>(
     if !is_right_angled(cell.metric()) {
         return Status::NotRightAngled;
     }
-    let Ok(report) = symmetry_report(alloc, &cell, steps) else {
+    let Ok(report) = report(alloc, command, &cell, steps) else {
         return Status::Memory;
     };
     match write_whole(out, report.as_slice()) {

@@ -96,6 +96,11 @@ pub(crate) fn tell<E: Sink>(err: &mut E, status: &Status)
         Status::Usage(UsageFault::NoCommand) => b"magsym: no command\n",
         Status::Usage(UsageFault::UnknownCommand) => b"magsym: unknown command\n",
         Status::Usage(UsageFault::UnknownOption) => b"magsym: unknown option\n",
+        Status::Usage(UsageFault::RepeatedOption) => b"magsym: option given twice\n",
+        Status::Usage(UsageFault::MissingValue) => b"magsym: option needs a value\n",
+        Status::Usage(UsageFault::BadValue) => {
+            b"magsym: value is not a number of 1 to 9 digits\n"
+        }
         Status::CellTooLong => b"magsym: cell is longer than 262144 bytes\n",
         Status::NotRightAngled => b"magsym: cell is not right-angled\n",
         Status::ReadFault => b"magsym: reading failed\n",

@@ -1,2 +1,3 @@
 mod KnownValues
 pub mod LineLemmas
+mod PageLemmas

@@ -1,1 +1,2 @@
 pub mod OperationText
+pub mod Pages

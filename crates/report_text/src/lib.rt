@@ -6,8 +6,10 @@
 #![tactic(auto)]
 
 mod operations;
+mod pages;
 
 pub use operations::ops_report;
+pub use pages::pages_resume;
 
 #[cfg(test)]
 mod tests;

@@ -1,8 +1,10 @@
 // The lines of symmetry operations.
 ghost use Rattle.std.specs.Prelude.{decimal, ◌≡◌, ◌++◌, ◌∷◌, [], pos, OnOk, IfOk};
 ghost use Rattle.op_group.specs.Views.{operation_of};
-ghost use Rattle.report_text.specs.OperationText.{plus_text, term_text, terms_text, fraction_text, row_text, sign_text, operation_text, operations_text};
+ghost use Rattle.report_text.specs.OperationText.{plus_text, term_text, terms_text, fraction_text, row_text, sign_text, operation_text};
+ghost use Rattle.report_text.specs.Pages.{page_text};
 
+use crate::pages::page;
 use crystal_spec::Sign;
 use exact_num::{Int, gcd};
 use io_edge::Bytes;
@@ -123,15 +125,21 @@ fn push_operation(alloc: Global, out: &mut Bytes, n: u32, op: &Op) -> Result<(),
     Ok(())
 }
 
-/// The lines of the operations of a list, in order.
+/// The lines of the operations of a list in order, from the operation behind the first `skip` on, and at most `take` of
+/// them where that is given.
 ///
 /// One line an operation, with LF at the end. Refuses for want of memory alone.
-pub fn ops_report(alloc: Global, list: &OpList) -> Result<Bytes, AllocError>
-    ensures { IfOk result (λ text. text ≡ operations_text list.now) }
+pub fn ops_report(
+    alloc: Global,
+    list: &OpList,
+    skip: u64,
+    take: Option<u64>,
+) -> Result<Bytes, AllocError>
+    ensures { IfOk result (λ text. text ≡ page_text list.now skip take) }
 {
     let n = list.n();
     let mut out = Bytes::new(alloc);
-    for op in list.ops() {
+    for op in page(list.ops(), skip, take) {
         push_operation(alloc, &mut out, n, op)?;
     }
     Ok(out)

@@ -42,7 +42,7 @@ fn lines(alloc: Global, n: u32, rows: [[i128; 3]; 3], shift: [u32; 3]) -> Result
     let mut list = OpList::new(alloc, n);
     put(&mut list, operation(rows, shift, Sign::Reversed)?)?;
     put(&mut list, operation(rows, shift, Sign::Same)?)?;
-    Ok(ops_report(alloc, &list)?)
+    Ok(ops_report(alloc, &list, 0, None)?)
 }
 
 #[test]

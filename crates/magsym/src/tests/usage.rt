@@ -23,6 +23,80 @@ fn faults_in_the_words_leave_the_input(rt: HostRuntime) -> Result<(), Fail> {
             UsageFault::UnknownOption,
             b"magsym: unknown option\n",
         ),
+        (
+            [b"symmetry".as_slice(), b"primitive"].as_slice(),
+            UsageFault::UnknownOption,
+            b"magsym: unknown option\n",
+        ),
+        (
+            [
+                b"symmetry".as_slice(),
+                b"--no-time-reversal",
+                b"--no-time-reversal",
+            ]
+            .as_slice(),
+            UsageFault::RepeatedOption,
+            b"magsym: option given twice\n",
+        ),
+        (
+            [b"symmetry".as_slice(), b"--skip", b"1", b"--skip"].as_slice(),
+            UsageFault::RepeatedOption,
+            b"magsym: option given twice\n",
+        ),
+        (
+            [
+                b"symmetry".as_slice(),
+                b"--take",
+                b"1",
+                b"--skip",
+                b"2",
+                b"--take",
+                b"1",
+            ]
+            .as_slice(),
+            UsageFault::RepeatedOption,
+            b"magsym: option given twice\n",
+        ),
+        (
+            [b"symmetry".as_slice(), b"--skip"].as_slice(),
+            UsageFault::MissingValue,
+            b"magsym: option needs a value\n",
+        ),
+        (
+            [b"symmetry".as_slice(), b"--skip", b"1", b"--take"].as_slice(),
+            UsageFault::MissingValue,
+            b"magsym: option needs a value\n",
+        ),
+        (
+            [b"symmetry".as_slice(), b"--take", b"x"].as_slice(),
+            UsageFault::BadValue,
+            b"magsym: value is not a number of 1 to 9 digits\n",
+        ),
+        (
+            [b"symmetry".as_slice(), b"--skip", b"--skip"].as_slice(),
+            UsageFault::BadValue,
+            b"magsym: value is not a number of 1 to 9 digits\n",
+        ),
+        (
+            [b"symmetry".as_slice(), b"--skip", b""].as_slice(),
+            UsageFault::BadValue,
+            b"magsym: value is not a number of 1 to 9 digits\n",
+        ),
+        (
+            [b"symmetry".as_slice(), b"--skip", b"+1"].as_slice(),
+            UsageFault::BadValue,
+            b"magsym: value is not a number of 1 to 9 digits\n",
+        ),
+        (
+            [b"symmetry".as_slice(), b"--skip", b"1234567890"].as_slice(),
+            UsageFault::BadValue,
+            b"magsym: value is not a number of 1 to 9 digits\n",
+        ),
+        (
+            [b"symmetry".as_slice(), b"--skip", b"x", b"--foo"].as_slice(),
+            UsageFault::BadValue,
+            b"magsym: value is not a number of 1 to 9 digits\n",
+        ),
     ] {
         let mut ran = answer_to(rt.alloc(), words, CUBIC, [0, 0, 0])?;
         assert_eq!(rt; ran.status, Status::Usage(fault));

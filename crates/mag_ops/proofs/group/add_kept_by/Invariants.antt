@@ -8,5 +8,5 @@ use Rattle.mag_ops.proofs.group.add_kept_by.Given as goal
 abbrev pub invariant-loop-i : goal.invariant-loop-i
 invariant-loop-i g l = record {
   n : l.found.n ≡ l.places.n;
-  members : (o : Operation) → IsMember o l.found.operations ↔ (IsFromAtoms l.places l.w l.i o ⊎ IsMember o l.initial.found.operations);
+  members : (o : Operation) → IsMember o l.found.operations ↔ (IsFromAtoms l.places l.time l.w l.i o ⊎ IsMember o l.initial.found.operations);
 }

@@ -8,5 +8,5 @@ use Rattle.mag_ops.proofs.group.all_kept.Given as goal
 abbrev pub invariant-loop-number : goal.invariant-loop-number
 invariant-loop-number g l = record {
   n : l.found.n ≡ l.places.n;
-  members : (o : Operation) → IsMember o l.found.operations ↔ IsFoundBelow l.places l.number o;
+  members : (o : Operation) → IsMember o l.found.operations ↔ IsFoundBelow l.places l.time l.number o;
 }

@@ -1,12 +1,10 @@
-use Rattle.std.proofs.Common.{◌≡◌, rules}
-use Rattle.std.specs.declared.result.Result.TheVariants.{Ok}
-use Rattle.magsym.specs.declared.command.Command.TheVariants.{Symmetry}
-use Rattle.magsym.specs.Commands.{command}
+use Rattle.std.proofs.Common.{rules}
+use Rattle.magsym.specs.Outcomes.{IsAsked}
 use Rattle.magsym.proofs.run.answer.Goals as goal
 
 pub returns-in-Err-Refused-clause-outcome : goal.returns-in-Err-Refused-clause-outcome
 returns-in-Err-Refused-clause-outcome g c =
-    let asked : command c.args.words.now ≡ Ok Symmetry = search rules in
+    let asked : IsAsked c.args.words.now = search rules in
     let read = c.in-Ok-read_to_end.ensures.taken in (
       asked,
       record {
