@@ -1,0 +1,46 @@
+-- Printed numbers and a printable cell, at a few values.
+use Rattle.std.proofs.Common.{◌≡◌, ◌++◌, List, [], ◌∷◌, ℕ, pos, negsuc, refl, ap₂, inr, lit<, arith}
+use Rattle.std.specs.Prelude.{codes}
+use Rattle.std.proofs.lemmas.Int.{ints}
+use Rattle.std.proofs.lemmas.Fmt.{decimal_digit}
+use Rattle.numbers.specs.Gcd.{gcd}
+use Rattle.crystal_spec.specs.Crystals.{Structure}
+use Rattle.cell_print.specs.CellFileText.{number_text}
+use Rattle.cell_print.specs.Printable.{IsPrintable}
+
+-- -6/4 is -3/2
+text_of_minus_six_quarters : number_text (negsuc 5) 4 ≡ codes "-3/2"
+unfolding number_text gcd
+text_of_minus_six_quarters = ap₂ (λ (p q : List ℕ). codes "-" ++ (p ++ (codes "/" ++ q))) (decimal_digit 3 (lit< tt)) (decimal_digit 2 (lit< tt))
+
+-- 8/4 is 2
+text_of_eight_quarters : number_text (pos 8) 4 ≡ codes "2"
+unfolding number_text gcd
+text_of_eight_quarters = ap₂ (λ (p q : List ℕ). p ++ q) (decimal_digit 2 (lit< tt)) refl
+
+-- two species in an oblique cell, with a moment of one half along c
+oblique : Structure
+oblique = record {
+  names = (77 ∷ 110 ∷ []) ∷ (79 ∷ []) ∷ [];
+  scale = pos 3;
+  metric = record { a11 = pos 60; a12 = negsuc 29; a13 = pos 0; a21 = negsuc 29; a22 = pos 60; a23 = negsuc 3; a31 = pos 0; a32 = negsuc 3; a33 = pos 90 };
+  n = 2;
+  k = 2;
+  sites =
+      record { species = 0; position = record { x = pos 0; y = pos 0; z = pos 0 }; moment = record { x = pos 0; y = pos 0; z = pos 1 } }
+      ∷ record { species = 1; position = record { x = pos 1; y = pos 0; z = pos 0 }; moment = record { x = pos 0; y = pos 0; z = pos 0 } }
+      ∷ [];
+}
+
+oblique_is_printable : IsPrintable oblique
+unfolding gcd oblique
+oblique_is_printable = record {
+  least_scale = refl;
+  least_n = refl;
+  least_k = refl;
+  scale = omega (arith, ints);
+  metric = (omega arith, (omega arith, (omega arith, (omega arith, (omega arith, (omega arith, tt))))));
+  moments = (omega arith, (omega arith, (omega arith, (omega arith, (omega arith, (omega arith, tt))))));
+  names = refl;
+  species = inr (refl, inr (refl, refl));
+}

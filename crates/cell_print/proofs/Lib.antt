@@ -1,0 +1,11 @@
+pub mod TextLemmas
+pub mod NumberWords
+pub mod TextCuts
+pub mod CommonDenominators
+pub mod NamesRead
+pub mod PrintedLines
+pub mod ReadLines
+pub mod PlacesApart
+pub mod JudgedText
+pub mod SpelledCell
+mod KnownValues

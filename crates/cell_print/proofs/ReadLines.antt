@@ -1,0 +1,194 @@
+-- What the printed lines say: the metric tensor and the atoms of the cell.
+use Rattle.std.proofs.Common.{◌≡◌, ℕ, zero, suc, ◌^◌, ◌<◌, ◌≤◌, Bool, true, false, List, [], ◌∷◌, ◌++◌, length, map, get_or, drop, None, refl, sym, ap, ◌∙◌, arith}
+use Rattle.std.specs.Prelude.{ℤ, pos, negsuc, ◌<ℤ◌, unsigned_abs, ◌&&◌, ◌||◌, ◌==◌, int_lt, nat_le, if◌then◌else◌}
+use Rattle.std.specs.List.{list_all}
+use Rattle.std.proofs.lemmas.Bool.{le-leb, lt-ltb, and_parts, and_from}
+use Rattle.std.proofs.lemmas.Int.{ints}
+use Rattle.crystal_spec.specs.Matrices.{Triple, Matrix}
+use Rattle.crystal_spec.specs.Crystals.{Site, Structure, IsPositive}
+use Rattle.crystal.specs.Cells.{IsSymmetric}
+use Rattle.crystal.specs.Names.{is_name}
+use Rattle.cell_text.specs.Numbers.{Fraction, scaled, common_denominator, first_of, number_fault, number_value}
+use Rattle.cell_text.specs.Text.{words}
+use Rattle.cell_text.specs.Lines.{same_word, metric_word, atom_word, is_metric_line, is_atom_line}
+use Rattle.cell_text.specs.Entries.{AtomLine, ScaledMetric, atom_of, metric_of, symmetric, metric_values, is_billion, is_metric_in_range, is_positive}
+use Rattle.cell_text.specs.Readers.{scaled_tensor}
+use Rattle.cell_print.specs.CellFileText.{scalar_products, coordinates, is_zero, is_nothing}
+use Rattle.cell_print.specs.Printable.{divisor_with, AreAtMost}
+use Rattle.cell_print.proofs.NumberWords.{reduced, number_text-value, number_text-no_fault}
+use Rattle.cell_print.proofs.TextCuts.{AreSmall, number_texts}
+use Rattle.cell_print.proofs.CommonDenominators.{common_denominator-reduced, scaled-reduced, reduced-zero}
+use Rattle.cell_print.proofs.PrintedLines.{metric_line, atom_line, name_of, moment_words, IsPlain, atom_line-words, metric_line-words}
+
+-- ---- numbers
+
+-- Printed numbers are read as they are.
+pub number_texts-values : (d : ℕ) (zs : List ℤ) → 0 < d → d < 10 ^ 18 → AreSmall zs → map number_value (number_texts d zs) ≡ map (reduced d) zs
+number_texts-values d [] some h small = refl
+number_texts-values d (z ∷ zs) some h small =
+    ap (λ (f : Fraction). f ∷ map number_value (number_texts d zs)) (number_text-value z d some small.0 h) ∙ ap (λ (fs : List Fraction). reduced d z ∷ fs) (number_texts-values d zs some h small.1)
+
+-- No printed number has a fault.
+pub number_texts-no_fault : (d : ℕ) (zs : List ℤ) (ws : List (List ℕ)) → 0 < d → d < 10 ^ 18 → AreSmall zs → first_of (map number_fault ws) ≡ None → first_of (map number_fault (number_texts d zs ++ ws)) ≡ None
+number_texts-no_fault d [] ws some h small e = e
+number_texts-no_fault d (z ∷ zs) ws some h small e = rw (number_text-no_fault z d some small.0 h) (number_texts-no_fault d zs ws some h small.1 e)
+
+-- ---- the metric line
+
+-- the metric tensor with its scale
+abbrev pub metric_held : Structure → ScaledMetric
+metric_held c = record { scale = unsigned_abs c.scale; entries = c.metric }
+
+-- What is known of the metric tensor.
+pub record IsPlainMetric (c : Structure) : Type 0 where
+  pub some : 0 < unsigned_abs c.scale
+  pub small_scale : unsigned_abs c.scale ≤ 10 ^ 9
+  pub small : AreSmall (scalar_products c.metric)
+  pub at_most : AreAtMost (10 ^ 9) (scalar_products c.metric)
+  pub least : divisor_with (unsigned_abs c.scale) (scalar_products c.metric) ≡ 1
+  pub same : IsSymmetric c.metric
+  pub positive : IsPositive c.metric
+
+metric_values-read : (c : Structure) → IsPlainMetric c → metric_values (metric_line c) ≡ map (reduced (unsigned_abs c.scale)) (scalar_products c.metric)
+metric_values-read c h =
+    ap (λ (ws : List (List ℕ)). number_value (get_or ws 1 []) ∷ number_value (get_or ws 2 []) ∷ number_value (get_or ws 3 []) ∷ number_value (get_or ws 4 []) ∷ number_value (get_or ws 5 []) ∷ number_value (get_or ws 6 []) ∷ []) (metric_line-words c (omega (arith, h.small_scale)) h.small)
+    ∙ number_texts-values (unsigned_abs c.scale) (scalar_products c.metric) h.some (omega (arith, h.small_scale)) h.small
+
+scale-read : (c : Structure) → IsPlainMetric c → common_denominator (map (reduced (unsigned_abs c.scale)) (scalar_products c.metric)) ≡ unsigned_abs c.scale
+scale-read c h = common_denominator-reduced (unsigned_abs c.scale) (scalar_products c.metric) h.some h.least
+
+-- The metric line says the metric tensor.
+pub metric_line-read : (c : Structure) → IsPlainMetric c → metric_of (metric_line c) ≡ metric_held c
+metric_line-read c h =
+    let d = unsigned_abs c.scale in
+    let g = c.metric in
+    ap (λ (fs : List Fraction). scaled_tensor (common_denominator fs) fs) (metric_values-read c h)
+    ∙ ap (λ (m : ℕ). scaled_tensor m (map (reduced d) (scalar_products g))) (scale-read c h)
+    ∙ entries (scaled-reduced d g.a11 h.some) (scaled-reduced d g.a22 h.some) (scaled-reduced d g.a33 h.some) (scaled-reduced d g.a23 h.some) (scaled-reduced d g.a13 h.some) (scaled-reduced d g.a12 h.some)
+    ∙ mirrored
+  where
+    made : ℕ → ℤ → ℤ → ℤ → ℤ → ℤ → ℤ → ScaledMetric
+    made d aa bb cc bc ac ab = record { scale = d; entries = symmetric aa bb cc bc ac ab }
+
+    entries : {d : ℕ} {aa bb cc bc ac ab aa' bb' cc' bc' ac' ab' : ℤ} → aa ≡ aa' → bb ≡ bb' → cc ≡ cc' → bc ≡ bc' → ac ≡ ac' → ab ≡ ab' → made d aa bb cc bc ac ab ≡ made d aa' bb' cc' bc' ac' ab'
+    entries {d} e1 e2 e3 e4 e5 e6 = λ i. made d (e1 i) (e2 i) (e3 i) (e4 i) (e5 i) (e6 i)
+
+    mirrored : made (unsigned_abs c.scale) c.metric.a11 c.metric.a22 c.metric.a33 c.metric.a23 c.metric.a13 c.metric.a12 ≡ metric_held c
+    mirrored = λ i. record { scale = unsigned_abs c.scale; entries = record { a11 = c.metric.a11; a12 = c.metric.a12; a13 = c.metric.a13; a21 = sym h.same.ab i; a22 = c.metric.a22; a23 = c.metric.a23; a31 = sym h.same.ac i; a32 = sym h.same.bc i; a33 = c.metric.a33 } }
+
+billions : (d : ℕ) (zs : List ℤ) → 0 < d → AreAtMost (10 ^ 9) zs → list_all (λ f. is_billion (scaled d f)) (map (reduced d) zs) ≡ true
+billions d [] some h = refl
+billions d (z ∷ zs) some h =
+    and_from (is_billion (scaled d (reduced d z))) _ (ap is_billion (scaled-reduced d z some) ∙ le-leb (unsigned_abs z) 1000000000 (omega (arith, h.0))) (billions d zs some h.1)
+
+-- It is within its limits.
+pub metric_line-in_range : (c : Structure) → IsPlainMetric c → is_metric_in_range (metric_line c) ≡ true
+unfolding is_metric_in_range
+metric_line-in_range c h =
+    let d = unsigned_abs c.scale in
+    ap (λ (fs : List Fraction). nat_le (common_denominator fs) 1000000000 && list_all (λ f. is_billion (scaled (common_denominator fs) f)) fs) (metric_values-read c h)
+    ∙ ap (λ (m : ℕ). nat_le m 1000000000 && list_all (λ f. is_billion (scaled m f)) (map (reduced d) (scalar_products c.metric))) (scale-read c h)
+    ∙ and_from (nat_le d 1000000000) _ (le-leb d 1000000000 (omega (arith, h.small_scale))) (billions d (scalar_products c.metric) h.some h.at_most)
+
+above : (z : ℤ) → pos 0 <ℤ z → int_lt (pos 0) z ≡ true
+above (pos zero) h = absurd (omega (arith, ints))
+above (pos (suc n)) h = lt-ltb 0 (suc n) (omega arith)
+above (negsuc n) h = absurd (omega (arith, ints))
+
+positive-test : (g : Matrix) → IsPositive g → is_positive g ≡ true
+unfolding is_positive
+positive-test g h = and_from _ _ (and_from _ _ (above _ h.first) (above _ h.second)) (above _ h.third)
+
+-- Its metric tensor is positive.
+pub metric_line-positive : (c : Structure) → IsPlainMetric c → is_positive (metric_of (metric_line c)).entries ≡ true
+metric_line-positive c h = ap (λ (m : ScaledMetric). is_positive m.entries) (metric_line-read c h) ∙ positive-test c.metric h.positive
+
+-- It has the form of a metric line.
+pub metric_line-is : (c : Structure) → IsPlainMetric c → is_metric_line (metric_line c) ≡ true
+unfolding is_metric_line
+metric_line-is c h = ap (λ (ws : List (List ℕ)). same_word (get_or ws 0 []) metric_word && length ws == 7) (metric_line-words c (omega (arith, h.small_scale)) h.small)
+
+-- Its words are numbers.
+pub metric_line-no_fault : (c : Structure) → IsPlainMetric c → first_of (map number_fault (drop 1 (words (metric_line c)))) ≡ None
+metric_line-no_fault c h =
+    ap (λ (ws : List (List ℕ)). first_of (map number_fault (drop 1 ws))) (metric_line-words c (omega (arith, h.small_scale)) h.small)
+    ∙ number_texts-no_fault (unsigned_abs c.scale) (scalar_products c.metric) [] h.some (omega (arith, h.small_scale)) h.small refl
+
+-- ---- atom lines
+
+-- the atom as a line of the cell file says it
+abbrev pub entry : Structure → Site → AtomLine
+entry c s = record {
+  name = name_of c s;
+  x = reduced c.n s.position.x;
+  y = reduced c.n s.position.y;
+  z = reduced c.n s.position.z;
+  ma = reduced c.k s.moment.x;
+  mb = reduced c.k s.moment.y;
+  mc = reduced c.k s.moment.z;
+}
+
+-- the units of positions and moments
+pub record HasUnits (c : Structure) : Type 0 where
+  pub some_n : 0 < c.n
+  pub some_k : 0 < c.k
+  pub small_n : c.n ≤ 10 ^ 6
+  pub small_k : c.k ≤ 10 ^ 6
+
+-- the values of a moment, at the words behind the position
+abbrev moment_values : List (List ℕ) → List Fraction
+moment_values ws = number_value (get_or ws 0 []) ∷ number_value (get_or ws 1 []) ∷ number_value (get_or ws 2 []) ∷ []
+
+zero_is : (z : ℤ) → is_zero z ≡ true → z ≡ pos 0
+zero_is (pos zero) e = refl
+zero_is (pos (suc n)) e = absurd cc
+zero_is (negsuc n) e = absurd cc
+
+moment_words-values : (k : ℕ) (m : Triple) → 0 < k → k < 10 ^ 18 → AreSmall (coordinates m) → moment_values (moment_words k m) ≡ map (reduced k) (coordinates m)
+moment_words-values k m some h small = by (is_nothing m) refl
+  where
+    by : (b : Bool) → is_nothing m ≡ b → moment_values (if b then [] else number_texts k (coordinates m)) ≡ map (reduced k) (coordinates m)
+    by true e =
+        let p = and_parts (is_zero m.x && is_zero m.y) (is_zero m.z) e in
+        let q = and_parts (is_zero m.x) (is_zero m.y) p.0 in
+        let x = sym (reduced-zero k some) ∙ ap (reduced k) (sym (zero_is m.x q.0)) in
+        let y = sym (reduced-zero k some) ∙ ap (reduced k) (sym (zero_is m.y q.1)) in
+        let z = sym (reduced-zero k some) ∙ ap (reduced k) (sym (zero_is m.z p.1)) in
+        λ i. x i ∷ y i ∷ z i ∷ []
+    by false e = number_texts-values k (coordinates m) some h small
+
+-- the atom that these words say
+abbrev said : List (List ℕ) → AtomLine
+said ws = record { name = get_or ws 1 []; x = number_value (get_or ws 2 []); y = number_value (get_or ws 3 []); z = number_value (get_or ws 4 []); ma = number_value (get_or ws 5 []); mb = number_value (get_or ws 6 []); mc = number_value (get_or ws 7 []) }
+
+-- the atom of these values
+abbrev of_values : List ℕ → List Fraction → List Fraction → AtomLine
+of_values name ps ms = record { name = name; x = get_or ps 0 (number_value []); y = get_or ps 1 (number_value []); z = get_or ps 2 (number_value []); ma = get_or ms 0 (number_value []); mb = get_or ms 1 (number_value []); mc = get_or ms 2 (number_value []) }
+
+-- An atom line says the atom.
+pub atom_line-read : (c : Structure) (s : Site) → HasUnits c → IsPlain c s → atom_of (atom_line c s) ≡ entry c s
+atom_line-read c s units plain =
+    ap said (atom_line-words c s (omega (arith, units.small_n)) (omega (arith, units.small_k)) plain)
+    ∙ ap (λ (ps : List Fraction). of_values (name_of c s) ps (moment_values (moment_words c.k s.moment))) (number_texts-values c.n (coordinates s.position) units.some_n (omega (arith, units.small_n)) plain.position)
+    ∙ ap (λ (ms : List Fraction). of_values (name_of c s) (map (reduced c.n) (coordinates s.position)) ms) (moment_words-values c.k s.moment units.some_k (omega (arith, units.small_k)) plain.moment)
+
+-- Its words behind the name are numbers.
+pub atom_line-no_fault : (c : Structure) (s : Site) → HasUnits c → IsPlain c s → first_of (map number_fault (drop 2 (words (atom_line c s)))) ≡ None
+atom_line-no_fault c s units plain =
+    ap (λ (ws : List (List ℕ)). first_of (map number_fault (drop 2 ws))) (atom_line-words c s (omega (arith, units.small_n)) (omega (arith, units.small_k)) plain)
+    ∙ number_texts-no_fault c.n (coordinates s.position) (moment_words c.k s.moment) units.some_n (omega (arith, units.small_n)) plain.position (by (is_nothing s.moment))
+  where
+    by : (b : Bool) → first_of (map number_fault (if b then [] else number_texts c.k (coordinates s.moment))) ≡ None
+    by true = refl
+    by false = number_texts-no_fault c.k (coordinates s.moment) [] units.some_k (omega (arith, units.small_k)) plain.moment refl
+
+count_is : (c : Structure) (s : Site) (b : Bool) → (length (atom_word ∷ name_of c s ∷ (number_texts c.n (coordinates s.position) ++ (if b then [] else number_texts c.k (coordinates s.moment)))) == 5 || length (atom_word ∷ name_of c s ∷ (number_texts c.n (coordinates s.position) ++ (if b then [] else number_texts c.k (coordinates s.moment)))) == 8) ≡ true
+count_is c s true = refl
+count_is c s false = refl
+
+-- It has the form of an atom line.
+pub atom_line-is : (c : Structure) (s : Site) → HasUnits c → IsPlain c s → is_atom_line (atom_line c s) ≡ true
+unfolding is_atom_line
+atom_line-is c s units plain =
+    ap (λ (ws : List (List ℕ)). same_word (get_or ws 0 []) atom_word && (length ws == 5 || length ws == 8) && is_name (get_or ws 1 [])) (atom_line-words c s (omega (arith, units.small_n)) (omega (arith, units.small_k)) plain)
+    ∙ and_from _ (is_name (name_of c s)) (count_is c s (is_nothing s.moment)) plain.name

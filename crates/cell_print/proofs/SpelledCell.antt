@@ -1,0 +1,175 @@
+-- A printed cell is spelled by its text.
+use Rattle.std.proofs.Common.{◌≡◌, ℕ, zero, suc, ◌^◌, ◌<◌, ◌≤◌, true, List, [], ◌∷◌, ◌++◌, length, map, get_or, refl, sym, ap, subst, ◌∙◌, arith, append_assoc, length-append}
+use Rattle.std.specs.Prelude.{ℤ, pos, negsuc, ◌≤ℤ◌, ◌<ℤ◌, unsigned_abs}
+use Rattle.std.specs.List.{list_all, fold}
+use Rattle.std.proofs.lemmas.Bool.{and_parts}
+use Rattle.std.proofs.lemmas.Int.{ints}
+use Rattle.numbers.specs.Residue.{residue}
+use Rattle.numbers.proofs.ResidueRing.{residue_below}
+use Rattle.crystal_spec.specs.Matrices.{Triple}
+use Rattle.crystal_spec.specs.Crystals.{Site, Structure}
+use Rattle.crystal.specs.Names.{is_name}
+use Rattle.crystal.specs.Occupants.{NoneAt}
+use Rattle.crystal.specs.Cells.{IsCell, IsSiteOf, AreSitesOf, AreApart}
+use Rattle.cell_text.specs.Numbers.{scaled, common_denominator}
+use Rattle.cell_text.specs.Entries.{positions, moments}
+use Rattle.cell_text.specs.Rules.{first_fault, cell_fault}
+use Rattle.cell_text.specs.CellFile.{with_name, names_of, number_of, part_of, site_of, cell_with, cell_of, Spells}
+use Rattle.cell_print.specs.CellFileText.{scalar_products, cell_file_text}
+use Rattle.cell_print.specs.Printable.{all_positions, all_moments, AreAtMost, IsPrintable}
+use Rattle.cell_print.proofs.NumberWords.{reduced}
+use Rattle.cell_print.proofs.TextCuts.{AreSmall}
+use Rattle.cell_print.proofs.CommonDenominators.{common_denominator-reduced, scaled-reduced}
+use Rattle.cell_print.proofs.NamesRead.{number-of_name, names_behind, AreBelow, names-by_first_use}
+use Rattle.cell_print.proofs.PrintedLines.{name_of, ArePlain, cell_file_text-lines}
+use Rattle.cell_print.proofs.ReadLines.{IsPlainMetric, HasUnits, entry}
+use Rattle.cell_print.proofs.JudgedText.{CanFollowAll, IsElsewhere, whole, positions-entries, moments-entries, lines-read}
+
+-- ---- sizes
+
+small_from : (zs : List ℤ) → AreAtMost (10 ^ 9) zs → AreSmall zs
+small_from [] h = tt
+small_from (z ∷ zs) h = (omega (arith, h.0), small_from zs h.1)
+
+abs_within : (z : ℤ) (n : ℕ) → n ≤ 10 ^ 6 → (pos 0 ≤ℤ z) × (z <ℤ pos n) → unsigned_abs z < 10 ^ 18
+abs_within (pos a) n small h = omega (arith, ints, small, h.1)
+abs_within (negsuc a) n small h = absurd (omega (arith, ints, h.0))
+
+some_abs : (z : ℤ) → pos 1 ≤ℤ z → 0 < unsigned_abs z
+some_abs (pos a) h = omega (arith, ints, h)
+some_abs (negsuc a) h = absurd (omega (arith, ints, h))
+
+most_abs : (z : ℤ) → pos 1 ≤ℤ z → z ≤ℤ pos (10 ^ 9) → unsigned_abs z ≤ 10 ^ 9
+most_abs (pos a) some h = omega (arith, ints, h)
+most_abs (negsuc a) some h = absurd (omega (arith, ints, some))
+
+same_abs : (z : ℤ) → pos 1 ≤ℤ z → pos (unsigned_abs z) ≡ z
+same_abs (pos a) some = refl
+same_abs (negsuc a) some = absurd (omega (arith, ints, some))
+
+-- ---- what is known of a cell and its atoms
+
+metric-plain : (c : Structure) → IsCell c → IsPrintable c → IsPlainMetric c
+metric-plain c cell printable = record {
+  some = some_abs c.scale cell.scale_at_least;
+  small_scale = most_abs c.scale cell.scale_at_least printable.scale;
+  small = small_from (scalar_products c.metric) printable.metric;
+  at_most = printable.metric;
+  least = printable.least_scale;
+  same = cell.symmetric;
+  positive = cell.positive;
+}
+
+has_units : (c : Structure) → IsCell c → HasUnits c
+has_units c cell = record { some_n = cell.n_at_least; some_k = cell.k_at_least; small_n = cell.n_at_most; small_k = cell.k_at_most }
+
+name_at : (names : List (List ℕ)) (i : ℕ) → list_all is_name names ≡ true → i < length names → is_name (get_or names i []) ≡ true
+name_at [] i e h = absurd (omega arith)
+name_at (x ∷ xs) zero e h = (and_parts (is_name x) (list_all is_name xs) e).0
+name_at (x ∷ xs) (suc i) e h = name_at xs i (and_parts (is_name x) (list_all is_name xs) e).1 (omega arith)
+
+atoms-plain : (c : Structure) (sites : List Site) → c.n ≤ 10 ^ 6 → list_all is_name c.names ≡ true → AreSitesOf (length c.names) c.n sites → AreAtMost (10 ^ 9) (all_moments sites) → ArePlain c sites
+atoms-plain c [] small names h most = tt
+atoms-plain c (s ∷ sites) small names h most =
+    let p = h.0.within in (
+      record {
+        name = name_at c.names s.species names h.0.named;
+        position = (abs_within s.position.x c.n small p.x, (abs_within s.position.y c.n small p.y, (abs_within s.position.z c.n small p.z, tt)));
+        moment = (omega (arith, most.0), (omega (arith, most.1.0), (omega (arith, most.1.1.0), tt)));
+      },
+      atoms-plain c sites small names h.1 most.1.1.1,
+    )
+
+-- ---- each atom can follow those before it
+
+not_there : (p : Triple) (before : List Site) (s : Site) (later : List Site) → NoneAt p (before ++ s ∷ later) → s.position ≡ p → ⊥
+not_there p [] s later h = h.0
+not_there p (a ∷ before) s later h = not_there p before s later h.1
+
+elsewhere : (c : Structure) (before : List Site) (s : Site) (later : List Site) → AreSitesOf (length c.names) c.n (before ++ s ∷ later) → AreApart (before ++ s ∷ later) → IsElsewhere c before s
+elsewhere c [] s later h apart = tt
+elsewhere c (a ∷ before) s later h apart = ((h.0.within, λ same. not_there a.position before s later apart.0 (sym same)), elsewhere c before s later h.1 apart.1)
+
+moments-front : (before : List Site) (s : Site) (later : List Site) → AreAtMost (10 ^ 9) (all_moments (before ++ s ∷ later)) → AreAtMost (10 ^ 9) (all_moments (before ++ s ∷ []))
+moments-front [] s later h = (h.0, (h.1.0, (h.1.1.0, tt)))
+moments-front (a ∷ before) s later h = (h.0, (h.1.0, (h.1.1.0, moments-front before s later h.1.1.1)))
+
+all_follow : (c : Structure) (all before later : List Site) → before ++ later ≡ all → length all ≤ 512 → AreSitesOf (length c.names) c.n all → AreApart all → AreAtMost (10 ^ 9) (all_moments all) → AreSitesOf (length c.names) c.n later → ArePlain c later → CanFollowAll c before later
+all_follow c all before [] e few sites apart most here plain = tt
+all_follow c all before (s ∷ later) e few sites apart most here plain = (
+  record {
+    fewer = omega (arith, few, ap length e, length-append before (s ∷ later));
+    plain = plain.0;
+    within = here.0.within;
+    away = elsewhere c before s later (subst (AreSitesOf (length c.names) c.n) (sym e) sites) (subst AreApart (sym e) apart);
+    moments = moments-front before s later (subst (λ (xs : List Site). AreAtMost (10 ^ 9) (all_moments xs)) (sym e) most);
+  },
+  all_follow c all (before ++ s ∷ []) later (append_assoc before (s ∷ []) later ∙ e) few sites apart most here.1 plain.1,
+)
+
+-- ---- the cell of the contents
+
+names-fold : (c : Structure) (so_far : List (List ℕ)) (sites : List Site) → fold (λ names a. with_name names a.name) so_far (map (entry c) sites) ≡ names_behind c.names so_far sites
+names-fold c so_far [] = refl
+names-fold c so_far (s ∷ sites) = names-fold c (with_name so_far (name_of c s)) sites
+
+below_from : (total n : ℕ) (sites : List Site) → AreSitesOf total n sites → AreBelow total sites
+below_from total n [] h = tt
+below_from total n (s ∷ sites) h = (h.0.named, below_from total n sites h.1)
+
+names-whole : (c : Structure) → IsCell c → IsPrintable c → names_of (map (entry c) c.sites) ≡ c.names
+unfolding names_of
+names-whole c cell printable = names-fold c [] c.sites ∙ names-by_first_use c.names 0 c.sites cell.names_differ (below_from (length c.names) c.n c.sites cell.sites) printable.species
+
+part-reduced : (n : ℕ) (z : ℤ) → 0 < n → (pos 0 ≤ℤ z) × (z <ℤ pos n) → part_of n (reduced n z) ≡ z
+part-reduced n (pos a) some h = ap (residue n) (scaled-reduced n (pos a) some) ∙ residue_below n a (omega (arith, ints, h.1))
+part-reduced n (negsuc a) some h = absurd (omega (arith, ints, h.0))
+
+site-whole : (c : Structure) (s : Site) → IsCell c → IsSiteOf (length c.names) c.n s → site_of c.names c.n c.k (entry c s) ≡ s
+site-whole c s cell h =
+    let number : number_of c.names (name_of c s) ≡ s.species = number-of_name c.names s.species cell.names_differ h.named in
+    let x : part_of c.n (reduced c.n s.position.x) ≡ s.position.x = part-reduced c.n s.position.x cell.n_at_least h.within.x in
+    let y : part_of c.n (reduced c.n s.position.y) ≡ s.position.y = part-reduced c.n s.position.y cell.n_at_least h.within.y in
+    let z : part_of c.n (reduced c.n s.position.z) ≡ s.position.z = part-reduced c.n s.position.z cell.n_at_least h.within.z in
+    let ma : scaled c.k (reduced c.k s.moment.x) ≡ s.moment.x = scaled-reduced c.k s.moment.x cell.k_at_least in
+    let mb : scaled c.k (reduced c.k s.moment.y) ≡ s.moment.y = scaled-reduced c.k s.moment.y cell.k_at_least in
+    let mc : scaled c.k (reduced c.k s.moment.z) ≡ s.moment.z = scaled-reduced c.k s.moment.z cell.k_at_least in
+    λ i. record { species = number i; position = record { x = x i; y = y i; z = z i }; moment = record { x = ma i; y = mb i; z = mc i } }
+
+sites-whole : (c : Structure) (sites : List Site) → IsCell c → AreSitesOf (length c.names) c.n sites → map (site_of c.names c.n c.k) (map (entry c) sites) ≡ sites
+sites-whole c [] cell h = refl
+sites-whole c (s ∷ sites) cell h =
+    ap (λ (t : Site). t ∷ map (site_of c.names c.n c.k) (map (entry c) sites)) (site-whole c s cell h.0) ∙ ap (λ (ts : List Site). s ∷ ts) (sites-whole c sites cell h.1)
+
+cell_with-whole : (c : Structure) → IsCell c → IsPrintable c → cell_with (whole c) ≡ c
+unfolding cell_with
+cell_with-whole c cell printable =
+    let names = names-whole c cell printable in
+    let n = ap common_denominator (positions-entries c c.sites) ∙ common_denominator-reduced c.n (all_positions c.sites) cell.n_at_least printable.least_n in
+    let k = ap common_denominator (moments-entries c c.sites) ∙ common_denominator-reduced c.k (all_moments c.sites) cell.k_at_least printable.least_k in
+    let scale = same_abs c.scale cell.scale_at_least in
+    ap (λ (ns : List (List ℕ)). made (pos (unsigned_abs c.scale)) ns (common_denominator (positions (map (entry c) c.sites))) (common_denominator (moments (map (entry c) c.sites))) (map (site_of ns (common_denominator (positions (map (entry c) c.sites))) (common_denominator (moments (map (entry c) c.sites)))) (map (entry c) c.sites))) names
+    ∙ ap (λ (m : ℕ). made (pos (unsigned_abs c.scale)) c.names m (common_denominator (moments (map (entry c) c.sites))) (map (site_of c.names m (common_denominator (moments (map (entry c) c.sites)))) (map (entry c) c.sites))) n
+    ∙ ap (λ (m : ℕ). made (pos (unsigned_abs c.scale)) c.names c.n m (map (site_of c.names c.n m) (map (entry c) c.sites))) k
+    ∙ ap (λ (z : ℤ). made z c.names c.n c.k (map (site_of c.names c.n c.k) (map (entry c) c.sites))) scale
+    ∙ ap (made c.scale c.names c.n c.k) (sites-whole c c.sites cell cell.sites)
+  where
+    made : ℤ → List (List ℕ) → ℕ → ℕ → List Site → Structure
+    made scale names n k sites = record { names = names; scale = scale; metric = c.metric; n = n; k = k; sites = sites }
+
+-- ---- the text spells the cell
+
+-- A printable cell is the one that its text spells.
+pub cell_file_text-spells : (c : Structure) → IsCell c → IsPrintable c → Spells (cell_file_text c) c
+unfolding cell_fault
+cell_file_text-spells c cell printable =
+    let metric = metric-plain c cell printable in
+    let units = has_units c cell in
+    let plain = atoms-plain c c.sites cell.n_at_most printable.names cell.sites printable.moments in
+    let follow = all_follow c c.sites [] c.sites refl cell.few cell.sites cell.apart printable.moments cell.sites plain in
+    let read = lines-read c metric units cell.some follow in
+    let text = cell_file_text-lines c (omega (arith, metric.small_scale)) (omega (arith, units.small_n)) (omega (arith, units.small_k)) metric.small plain in
+    record {
+      faultless = ap (first_fault []) text ∙ read.faultless;
+      is = sym (ap cell_of text ∙ ap cell_with read.held ∙ cell_with-whole c cell printable);
+    }

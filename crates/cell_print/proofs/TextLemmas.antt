@@ -1,0 +1,68 @@
+-- The printed text, piece by piece.
+use Rattle.std.proofs.Common.{◌≡◌, ℕ, ◌+◌, List, [], ◌∷◌, ◌++◌, get_or, drop, Some, refl, sym, ap, ◌∙◌, arith, append_assoc}
+use Rattle.std.specs.Prelude.{ℤ, pos, negsuc, unsigned_abs, ◌<ℤ◌, ◌≤ℤ◌, slice_get}
+use Rattle.std.proofs.lemmas.Int.{ints}
+use Rattle.std.proofs.lemmas.Option.{get_or_from_slice_get}
+use Rattle.crystal_spec.specs.Crystals.{Site, Structure}
+use Rattle.crystal_spec.specs.Matrices.{Matrix}
+use Rattle.crystal.proofs.ImageLemmas.{drop_at}
+use Rattle.cell_print.specs.CellFileText.{number_text, size_text, numbers_text, scalar_products, metric_text, position_text, moment_text, atom_text, atoms_text}
+
+-- a negative number has a sign
+number_text-negative : (z : ℤ) (d : ℕ) → z <ℤ pos 0 → number_text z d ≡ 45 ∷ size_text (unsigned_abs z) d
+unfolding number_text
+number_text-negative (pos a) d h = absurd (omega (arith, ints))
+number_text-negative (negsuc a) d h = refl
+
+-- a number that is not negative has none
+pub number_text-positive : (z : ℤ) (d : ℕ) → pos 0 ≤ℤ z → number_text z d ≡ size_text (unsigned_abs z) d
+unfolding number_text
+number_text-positive (pos a) d h = refl
+number_text-positive (negsuc a) d h = absurd (omega (arith, ints))
+
+-- a sign and the size of a negative number are its text
+pub signed_text : (old pushed : List ℕ) (z : ℤ) (d size : ℕ) → z <ℤ pos 0 → size ≡ unsigned_abs z → pushed ≡ old ++ 45 ∷ [] → pushed ++ size_text size d ≡ old ++ number_text z d
+signed_text old pushed z d size h e f =
+    ap (λ (n : ℕ). pushed ++ size_text n d) e ∙ ap (λ (text : List ℕ). text ++ size_text (unsigned_abs z) d) f
+    ∙ append_assoc old (45 ∷ []) (size_text (unsigned_abs z) d)
+    ∙ ap (λ (text : List ℕ). old ++ text) (sym (number_text-negative z d h))
+
+-- `atom` and a space
+abbrev pub atom_start : List ℕ
+atom_start = 97 ∷ 116 ∷ 111 ∷ 109 ∷ 32 ∷ []
+
+-- `metric`
+abbrev pub metric_start : List ℕ
+metric_start = 109 ∷ 101 ∷ 116 ∷ 114 ∷ 105 ∷ 99 ∷ []
+
+-- the pieces of the metric line
+pub metric_from_pieces : (g : Matrix) (d : ℕ) (old n1 n2 n3 : List ℕ) → n1 ≡ old ++ metric_start → n2 ≡ n1 ++ numbers_text d (scalar_products g) → n3 ≡ n2 ++ 10 ∷ [] → n3 ≡ old ++ metric_text d g
+metric_from_pieces g d old n1 n2 n3 e1 e2 e3 =
+    e3 ∙ ap (λ (z : List ℕ). z ++ 10 ∷ []) (e2 ∙ ap (λ (z : List ℕ). z ++ numbers_text d (scalar_products g)) e1) ∙ pieces old metric_start (numbers_text d (scalar_products g))
+  where
+    pieces : (old a b : List ℕ) → ((old ++ a) ++ b) ++ 10 ∷ [] ≡ old ++ (a ++ (b ++ 10 ∷ []))
+    pieces old a b = simp append_assoc
+
+-- the pieces of the line of an atom
+pub atom_from_pieces : (c : Structure) (s : Site) (n k : ℕ) (old n1 n2 n3 n4 n5 name : List ℕ) →
+    slice_get c.names s.species ≡ Some name → n ≡ c.n → k ≡ c.k →
+    n1 ≡ old ++ atom_start → n2 ≡ n1 ++ name → n3 ≡ n2 ++ position_text n s.position → n4 ≡ n3 ++ moment_text k s.moment → n5 ≡ n4 ++ 10 ∷ [] →
+    n5 ≡ old ++ atom_text c s
+unfolding atom_text
+atom_from_pieces c s n k old n1 n2 n3 n4 n5 name named of_n of_k e1 e2 e3 e4 e5 =
+    let word : name ≡ get_or c.names s.species [] = sym (get_or_from_slice_get c.names s.species name [] named) in
+    let two : n2 ≡ (old ++ atom_start) ++ get_or c.names s.species [] = e2 ∙ ap (λ (z : List ℕ). z ++ name) e1 ∙ ap (λ (z : List ℕ). (old ++ atom_start) ++ z) word in
+    let three : n3 ≡ ((old ++ atom_start) ++ get_or c.names s.species []) ++ position_text c.n s.position = e3 ∙ ap (λ (z : List ℕ). z ++ position_text n s.position) two ∙ ap (λ (m : ℕ). ((old ++ atom_start) ++ get_or c.names s.species []) ++ position_text m s.position) of_n in
+    let four : n4 ≡ (((old ++ atom_start) ++ get_or c.names s.species []) ++ position_text c.n s.position) ++ moment_text c.k s.moment = e4 ∙ ap (λ (z : List ℕ). z ++ moment_text k s.moment) three ∙ ap (λ (m : ℕ). (((old ++ atom_start) ++ get_or c.names s.species []) ++ position_text c.n s.position) ++ moment_text m s.moment) of_k in
+    e5 ∙ ap (λ (z : List ℕ). z ++ 10 ∷ []) four ∙ pieces old (atom_start) (get_or c.names s.species []) (position_text c.n s.position) (moment_text c.k s.moment)
+  where
+    pieces : (old a b d e : List ℕ) → ((((old ++ a) ++ b) ++ d) ++ e) ++ 10 ∷ [] ≡ old ++ (a ++ (b ++ (d ++ (e ++ 10 ∷ []))))
+    pieces old a b d e = simp append_assoc
+
+-- one atom more
+pub atoms_more : (c : Structure) (s : Site) (i : ℕ) (out old pushed : List ℕ) → slice_get c.sites i ≡ Some s → out ++ atoms_text c (drop i c.sites) ≡ old → pushed ≡ out ++ atom_text c s → pushed ++ atoms_text c (drop (i + 1) c.sites) ≡ old
+atoms_more c s i out old pushed at so_far e =
+    ap (λ (z : List ℕ). z ++ atoms_text c (drop (i + 1) c.sites)) e
+    ∙ append_assoc out (atom_text c s) (atoms_text c (drop (i + 1) c.sites))
+    ∙ ap (λ (sites : List Site). out ++ atoms_text c sites) (sym (drop_at c.sites i s at))
+    ∙ so_far

@@ -1,0 +1,2 @@
+pub mod CellFileText
+pub mod Printable

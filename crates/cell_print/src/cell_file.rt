@@ -1,0 +1,128 @@
+// The lines of a cell file.
+ghost use Rattle.std.specs.Prelude.{◌≡◌, ◌++◌, IfOk, OnOk, length, ◌<◌, ◌≤◌};
+ghost use Rattle.crystal.specs.Views.{metric_of, site_of, triple_of};
+ghost use Rattle.cell_text.specs.CellFile.{Spells};
+ghost use Rattle.cell_print.specs.Printable.{IsPrintable};
+ghost use Rattle.cell_print.specs.CellFileText.{scalar_products, numbers_text, position_text, metric_text, moment_text, atom_text, atoms_text, cell_file_text};
+
+use crate::fractions::push_numbers;
+use crystal::{Atom, Cell, Metric, Name};
+use exact_num::Int;
+use io_edge::Bytes;
+use matrix3::Vec3;
+use std::alloc::{AllocError, Global};
+
+/// Adds the six scalar products of the axes, of a metric tensor in units of 1/scale.
+fn push_products(
+    alloc: Global,
+    out: &mut Bytes,
+    scale: u128,
+    metric: &Metric,
+) -> Result<(), AllocError>
+    requires { 1 ≤ scale }
+    ensures { OnOk result (out.new ≡ out.old ++ numbers_text scale (scalar_products (metric_of metric.now))) }
+{
+    let g = *metric;
+    let products = [
+        g.aa.get(),
+        g.bb.get(),
+        g.cc.get(),
+        g.bc.get(),
+        g.ac.get(),
+        g.ab.get(),
+    ];
+    push_numbers(alloc, out, &products, scale)
+}
+
+/// Adds the metric line, of a metric tensor in units of 1/scale.
+fn push_metric(
+    alloc: Global,
+    out: &mut Bytes,
+    scale: u128,
+    metric: &Metric,
+) -> Result<(), AllocError>
+    requires { 1 ≤ scale }
+    ensures { OnOk result (out.new ≡ out.old ++ metric_text scale (metric_of metric.now)) }
+{
+    out.append(b"metric")?;
+    push_products(alloc, out, scale, metric)?;
+    out.push(b'\n')?;
+    Ok(())
+}
+
+/// Adds a name.
+fn push_name(out: &mut Bytes, name: &Name) -> Result<(), AllocError>
+    ensures { OnOk result (out.new ≡ out.old ++ name.now) }
+{
+    for i in 0..name.count() {
+        out.push(name.byte(i))?;
+    }
+    Ok(())
+}
+
+/// Adds a moment in units of 1/k, where it is not 0 0 0.
+fn push_moment(
+    alloc: Global,
+    out: &mut Bytes,
+    k: u128,
+    moment: &Vec3<Int>,
+) -> Result<(), AllocError>
+    requires { 1 ≤ k }
+    ensures { OnOk result (out.new ≡ out.old ++ moment_text k moment.now) }
+{
+    let m = *moment;
+    if m.x.get() == 0 && m.y.get() == 0 && m.z.get() == 0 {
+        return Ok(());
+    }
+    push_numbers(alloc, out, &[m.x.get(), m.y.get(), m.z.get()], k)
+}
+
+/// Adds a position in units of 1/n.
+fn push_position(alloc: Global, out: &mut Bytes, n: u128, place: [u32; 3]) -> Result<(), AllocError>
+    requires { 1 ≤ n }
+    ensures { OnOk result (out.new ≡ out.old ++ position_text n (triple_of place)) }
+{
+    let [x, y, z] = place;
+    push_numbers(alloc, out, &[x as i128, y as i128, z as i128], n)
+}
+
+/// Adds the line of an atom of the cell.
+fn push_atom(alloc: Global, out: &mut Bytes, cell: &Cell, atom: &Atom) -> Result<(), AllocError>
+    requires species { atom.now.species < length cell.now.names }
+    ensures { OnOk result (out.new ≡ out.old ++ atom_text cell.now (site_of atom.now)) }
+{
+    let _form = cell.count();
+    out.append(b"atom ")?;
+    push_name(out, cell.name(atom.species))?;
+    push_position(alloc, out, cell.n() as u128, atom.place)?;
+    push_moment(alloc, out, cell.k() as u128, &atom.moment)?;
+    out.push(b'\n')?;
+    Ok(())
+}
+
+/// Adds the lines of all atoms of the cell.
+fn push_atoms(alloc: Global, out: &mut Bytes, cell: &Cell) -> Result<(), AllocError>
+    ensures { OnOk result (out.new ≡ out.old ++ atoms_text cell.now cell.now.sites) }
+{
+    for i in 0..cell.count() {
+        push_atom(alloc, out, cell, cell.atom(i))?;
+    }
+    Ok(())
+}
+
+/// The cell file of a cell.
+///
+/// Each number is in lowest terms, and a moment of 0 0 0 is left out. A cell whose units are the least ones, within the
+/// limits of the cell file, is the one that the text spells. Refuses for want of memory alone.
+pub fn print_cell(alloc: Global, cell: &Cell) -> Result<Bytes, AllocError>
+    ensures value { IfOk result (λ text. text ≡ cell_file_text cell.now) }
+    ensures spelled { IfOk result (λ text. IsPrintable cell.now → Spells text cell.now) }
+{
+    let _form = cell.count();
+    let mut out = Bytes::copy(alloc, b"magcell 1\n")?;
+    let scale = cell.scale().get().unsigned_abs();
+    push_metric(alloc, &mut out, scale, cell.metric())?;
+    push_atoms(alloc, &mut out, cell)?;
+    out.append(b"end\n")?;
+    Ok(out)
+}

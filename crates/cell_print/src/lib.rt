@@ -1,0 +1,13 @@
+//! The cell file of a cell, which spells the cell again.
+//!
+//! The text is a cell file `magcell 1`: the metric tensor, then one line an atom in order, each number in lowest terms.
+//! `specs/CellFileText.antt` says the text in full.
+#![tactic(auto)]
+
+mod cell_file;
+mod fractions;
+
+pub use cell_file::print_cell;
+
+#[cfg(test)]
+mod tests;
