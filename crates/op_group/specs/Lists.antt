@@ -1,10 +1,12 @@
 -- Strictly increasing lists of operations with translation parts within one cell.
---   OperationList           an n and a list of operations
---   AllWithinCell n os      the translation parts are from 0 to n - 1
---   IsOperationList n os    they are, and the operations are strictly increasing
-use Rattle.std.specs.Prelude.{ℕ, List}
+--   OperationList                an n and a list of operations
+--   AllWithinCell n os           the translation parts are from 0 to n - 1
+--   IsOperationList n os         they are, and the operations are strictly increasing
+--   HasOnlyPureTranslations os   each operation is (I, t, +1)
+use Rattle.std.specs.Prelude.{◌≡◌, ℕ, List}
 use Rattle.crystal_spec.specs.Increasing.{IsIncreasing, IsMember}
 use Rattle.crystal_spec.specs.Operations.{Operation, compare_of, IsWithinCell}
+use Rattle.basis_spec.specs.Translations.{pure_translation}
 
 -- operations, and the n of their translation parts
 pub record OperationList : Type 0 where
@@ -19,3 +21,7 @@ AllWithinCell n os = (o : Operation) → IsMember o os → IsWithinCell n o.tran
 pub record IsOperationList (n : ℕ) (os : List Operation) : Type 0 where
   pub ordered : IsIncreasing compare_of os
   pub within_cell : AllWithinCell n os
+
+-- each operation of the list is (I, t, +1)
+abbrev pub HasOnlyPureTranslations : List Operation → Type 0
+HasOnlyPureTranslations os = (o : Operation) → IsMember o os → o ≡ pure_translation o.translation

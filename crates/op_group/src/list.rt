@@ -1,7 +1,7 @@
 ghost use Rattle.std.specs.Prelude.{◌≡◌, ◌↔◌, ◌<◌, ◌≤◌, [], length, map, slice_get, Some, IsTrue, IsOk, IfOk, IfErr, OnOk, OnErr};
 ghost use Rattle.std.specs.List.{insert};
 ghost use Rattle.crystal_spec.specs.Increasing.{IsIncreasing, IsMember, inserted};
-ghost use Rattle.crystal_spec.specs.Operations.{compare_of, IsWithinCell};
+ghost use Rattle.crystal_spec.specs.Operations.{Operation, compare_of, IsWithinCell};
 ghost use Rattle.op_group.specs.Views.{operation_of, translation_of};
 ghost use Rattle.op_group.specs.Lists.{AllWithinCell};
 
@@ -48,6 +48,20 @@ impl OpList {
             n,
             items: Vec::new(alloc),
         }
+    }
+
+    /// The list of these operations, in whatever order they come, each once. It takes no memory.
+    ///
+    /// Their translation parts are below n.
+    pub fn sorted(n: u32, ops: Vec<Op>) -> OpList
+        requires below_n { AllWithinCell n (map operation_of ops.items) }
+        ensures n { result.n ≡ n }
+        ensures exact { (o : Operation) → IsMember o result.operations ↔ IsMember o (map operation_of ops.items) }
+    {
+        let mut items = ops;
+        items.sort_unstable_by(compare);
+        items.dedup_by(|next, last| compare(next, last).is_eq());
+        OpList { n, items }
     }
 
     /// The n of the translation parts.
