@@ -1,0 +1,13 @@
+use Rattle.std.proofs.Common.{sym, subst}
+use Rattle.crystal_spec.specs.Operations.{compare_of}
+use Rattle.crystal_spec.proofs.Ordered.{compare_total}
+use Rattle.basis_spec.proofs.TranslationLists.{increasing_distinct}
+use Rattle.mag_type.specs.Families.{IsUnprimed, IsNumberOf}
+use Rattle.mag_type.proofs.FamilyOrders.{unprimed_number}
+use Rattle.mag_type.proofs.classification.classify.Goals as goal
+
+pub returns-clause-unprimed : goal.returns-clause-unprimed
+returns-clause-unprimed c =
+    let os = c.args.list.now.operations in
+    subst (IsNumberOf (IsUnprimed os)) (sym c.unprimed_count.ensures)
+    (unprimed_number c.ops.result.now os c.ops.ensures (increasing_distinct compare_of compare_total os c.count-form.ensures.ordered))

@@ -1,0 +1,126 @@
+ghost use Rattle.std.specs.Prelude.{◌≡◌, ◌≢◌, ◌≤◌, ◌^◌, IsTrue};
+ghost use Rattle.ring.specs.Size.{AtMost};
+ghost use Rattle.matrix3.specs.Matrices.{EachEntry};
+ghost use Rattle.crystal_spec.specs.Matrices.{Triple};
+ghost use Rattle.crystal_spec.specs.Operations.{IsWithinCell};
+ghost use Rattle.basis_spec.specs.Translations.{pure_translation};
+ghost use Rattle.op_group.specs.Views.{operation_of, translation_of};
+ghost use Rattle.op_group.specs.Composition.{identity_operation, IsComposed};
+
+use crate::classification::identity;
+use crate::{Kind, classify};
+use crystal_spec::Sign;
+use exact_num::Int;
+use matrix3::Mat3;
+use op_group::{Op, OpList, compare, compose};
+use std::alloc::Global;
+use std::test::Fail;
+
+fn whole(value: i8) -> Int
+    ensures { AtMost 128 result }
+{
+    Int::new(value as i128).unwrap()
+}
+
+/// The operation of a diagonal matrix.
+fn operation(diagonal: [i8; 3], shift: [u32; 3], sign: Sign) -> Op
+    ensures { EachEntry (AtMost 128) result.w }
+{
+    let zero = whole(0);
+    let w = Mat3 {
+        a11: whole(diagonal[0]),
+        a12: zero,
+        a13: zero,
+        a21: zero,
+        a22: whole(diagonal[1]),
+        a23: zero,
+        a31: zero,
+        a32: zero,
+        a33: whole(diagonal[2]),
+    };
+    Op { w, shift, sign }
+}
+
+/// The operation that leaves all as it is.
+fn nothing() -> Op
+    ensures { operation_of result ≡ identity_operation }
+{
+    Op {
+        w: identity(),
+        shift: [0, 0, 0],
+        sign: Sign::Same,
+    }
+}
+
+/// Whether the translation part is within the cell.
+fn is_within_cell(n: u32, op: &Op) -> bool
+    ensures { IsTrue result → IsWithinCell n (translation_of op.now.shift) }
+{
+    let [x, y, z] = op.shift;
+    x < n && y < n && z < n
+}
+
+/// Whether the operation undoes itself modulo n.
+fn is_own_inverse(n: u32, op: &Op) -> bool
+    requires some { 1 ≤ n }
+    requires at_most { n ≤ 10 ^ 6 }
+    requires size { EachEntry (AtMost 128) op.now.w }
+    ensures { IsTrue result → IsComposed n (operation_of op.now) (operation_of op.now) identity_operation }
+{
+    compare(&compose(n, op, op), &nothing()).is_eq()
+}
+
+/// Whether the operation is no pure translation.
+fn is_no_pure_translation(op: &Op) -> bool
+    ensures { IsTrue result → (t : Triple) → pure_translation t ≢ operation_of op.now }
+{
+    op.sign == Sign::Reversed || op.w != identity()
+}
+
+/// The group of the identity and an operation that undoes itself, classified.
+fn kind_of_two(alloc: Global, n: u32, op: Op) -> Result<Kind, Fail>
+    requires size { EachEntry (AtMost 128) op.w }
+{
+    if 1 <= n
+        && n <= 1_000_000
+        && is_within_cell(n, &op)
+        && is_own_inverse(n, &op)
+        && is_no_pure_translation(&op)
+    {
+        let mut list = OpList::new(alloc, n);
+        list.insert(nothing())?;
+        list.insert(op)?;
+        Ok(classify(&list))
+    } else {
+        Err(Fail::new("the two operations are no such group"))
+    }
+}
+
+#[test]
+fn groups_of_two_operations_have_each_type(rt: HostRuntime) -> Result<(), Fail> {
+    let unit = [1, 1, 1];
+    let inversion = [-1, -1, -1];
+    let half_turn = [-1, -1, 1];
+    let o = [0, 0, 0];
+    for (i, (n, diagonal, shift, sign, kind, family, unprimed)) in [
+        (1, inversion, o, Sign::Same, 1, 2, 2),
+        (1, unit, o, Sign::Reversed, 2, 1, 1),
+        (1, inversion, o, Sign::Reversed, 3, 2, 1),
+        (4, inversion, [1, 2, 3], Sign::Reversed, 3, 2, 1),
+        (1, half_turn, o, Sign::Same, 1, 2, 2),
+        (2, unit, [0, 0, 1], Sign::Reversed, 4, 2, 1),
+        (6, unit, [3, 3, 0], Sign::Reversed, 4, 2, 1),
+    ]
+    .iter()
+    .enumerate()
+    {
+        let found = kind_of_two(rt.alloc(), *n, operation(*diagonal, *shift, *sign))?;
+        let expected = Kind {
+            kind: *kind,
+            family: *family,
+            unprimed: *unprimed,
+        };
+        assert!(rt; found == expected, "group {i}");
+    }
+    Ok(())
+}
