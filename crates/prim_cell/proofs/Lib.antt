@@ -1,0 +1,7 @@
+pub mod Moving
+pub mod Found
+pub mod Folding
+pub mod Making
+pub mod Ranges
+pub mod Cells
+pub mod ReducedBases

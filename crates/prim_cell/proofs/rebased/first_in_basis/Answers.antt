@@ -1,0 +1,33 @@
+use Rattle.std.proofs.Common.{◌≡◌, ℕ, List, [], ◌∷◌, subst, sym, ap, ◌∙◌}
+use Rattle.std.specs.Prelude.{◌*ℤ◌, Some}
+use Rattle.crystal_spec.specs.Matrices.{image}
+use Rattle.crystal_spec.specs.Crystals.{Site, Structure}
+use Rattle.crystal_spec.specs.Operations.{IsWithinCell}
+use Rattle.crystal.specs.Views.{site_of, metric_of}
+use Rattle.crystal.proofs.ImageLemmas.{member_at}
+use Rattle.basis_spec.specs.Bases.{site_in_basis}
+use Rattle.basis_spec.proofs.Residues.{residue_within}
+use Rattle.prim_cell.proofs.Moving.{some_cells}
+use Rattle.prim_cell.proofs.Making.{started_is}
+use Rattle.prim_cell.proofs.rebased.first_in_basis.Goals as goal
+
+pub atom_in_basis-first-requires-clause-moment : goal.atom_in_basis-first-requires-clause-moment
+atom_in_basis-first-requires-clause-moment c = c.requires.moments (site_of c.atom.result.now) (member_at c.args.cell.now.sites 0 (site_of c.atom.result.now) c.atom.ensures.value)
+
+pub build-requires-clause-place : goal.build-requires-clause-place
+build-requires-clause-place c =
+    let s = c.args.cell.now in
+    let a = site_of c.atom.result.now in
+    subst (λ (m : ℕ). IsWithinCell m (site_of c.atom_in_basis-first.result).position) (sym c.n-2.ensures)
+    (subst (λ (x : Site). IsWithinCell s.n x.position) (sym (c.atom_in_basis-first.ensures.value ∙ ap (λ (m : ℕ). site_in_basis m c.args.r.now a) c.n.ensures)) (residue_within s.n (image c.args.r.now a.position) (some_cells s c.count-form.ensures.form)))
+
+pub returns : goal.returns
+returns c =
+    let s = c.args.cell.now in
+    let a = site_of c.atom.result.now in
+    let value = c.atom_in_basis-first.ensures.value ∙ ap (λ (m : ℕ). site_in_basis m c.args.r.now a) c.n.ensures in
+    let scale = c.mul-scale.ensures ∙ (λ i. c.mul.ensures i *ℤ c.scale.ensures i) ∙ (λ i. (c.whole.ensures.value i *ℤ c.whole-2.ensures.value i) *ℤ s.scale) ∙ (λ i. (c.requires.index i *ℤ c.requires.index i) *ℤ s.scale) in
+    let name = c.name.ensures ∙ ap (λ (n : List ℕ). Some n) (sym c.copied-name.ensures) in
+    let built : ◌≡◌ {A = Structure} c.in_ok-made.made (record { names = c.copied-name.result ∷ []; scale = c.mul-scale.result; metric = metric_of c.args.metric; n = c.n-2.result; k = c.k.result; sites = site_of c.atom_in_basis-first.result ∷ [] }) = c.in_ok-made.ensures in
+    built
+    ∙ started_is s c.args.r.now c.copied-name.result a (site_of c.atom_in_basis-first.result) c.mul-scale.result (metric_of c.args.metric) c.n-2.result c.k.result name c.atom.ensures.value scale c.requires.metric c.n-2.ensures c.k.ensures value

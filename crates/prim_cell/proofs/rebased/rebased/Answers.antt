@@ -1,0 +1,19 @@
+use Rattle.std.proofs.Common.{ap, ◌∙◌}
+use Rattle.crystal_spec.specs.Crystals.{Structure}
+use Rattle.prim_cell.proofs.Making.{has_started, all_made}
+use Rattle.prim_cell.proofs.rebased.rebased.Goals as goal
+
+pub add_names-requires-clause-first : goal.add_names-requires-clause-first
+add_names-requires-clause-first c = (has_started c.args.cell.now c.in_ok-made.made c.args.r.now c.in_ok-made.ensures).names
+
+pub add_atoms-requires-clause-n : goal.add_atoms-requires-clause-n
+add_atoms-requires-clause-n c = ap (λ (s : Structure). s.n) c.in_ok-add_names.ensures ∙ (has_started c.args.cell.now c.in_ok-made.made c.args.r.now c.in_ok-made.ensures).n
+
+pub add_atoms-requires-clause-names : goal.add_atoms-requires-clause-names
+add_atoms-requires-clause-names c = ap (λ (s : Structure). s.names) c.in_ok-add_names.ensures
+
+pub add_atoms-requires-clause-first : goal.add_atoms-requires-clause-first
+add_atoms-requires-clause-first c = ap (λ (s : Structure). s.sites) c.in_ok-add_names.ensures ∙ (has_started c.args.cell.now c.in_ok-made.made c.args.r.now c.in_ok-made.ensures).sites
+
+pub returns : goal.returns
+returns c = all_made c.args.cell.now c.in_ok-made.made c.add_names.new.made c.add_atoms.new.made c.args.r.now c.in_ok-made.ensures c.in_ok-add_names.ensures c.in_ok-add_atoms.ensures

@@ -1,0 +1,21 @@
+use Rattle.std.proofs.Common.{subst, sym, ap, ◌∙◌}
+use Rattle.crystal_spec.specs.Crystals.{Structure}
+use Rattle.crystal.specs.Views.{metric_of}
+use Rattle.basis_spec.specs.Translations.{ListsPureTranslations}
+use Rattle.prim_cell.specs.Primitives.{PrimitiveCell, TakesToStepBasis}
+use Rattle.prim_cell.proofs.ReducedBases.{is_primitive_cell}
+use Rattle.prim_cell.proofs.reduced.primitive.Goals as goal
+
+pub new-requires-2 : goal.new-requires-2
+new-requires-2 c =
+    let s = c.args.cell.now in
+    let basis = c.reduced_basis-basis.result in
+    let list = c.in_ok-shifts.shifts in
+    is_primitive_cell s c.in_ok-made.made list basis.index basis.back basis.fore (metric_of basis.metric)
+    (c.in_ok-shifts.ensures.n ∙ ap (λ (t : Structure). t.n) c.in_ok-places.ensures)
+    (subst (λ (t : Structure). ListsPureTranslations t list.operations) c.in_ok-places.ensures c.in_ok-shifts.ensures.exact)
+    c.reduced_basis-basis.ensures c.in_ok-made.ensures
+
+pub returns-clause-kept : goal.returns-clause-kept
+returns-clause-kept c =
+    subst (λ (p : PrimitiveCell). TakesToStepBasis c.args.cell.now p.shifts.operations p.back) (sym c.new-2.ensures) c.reduced_basis-basis.ensures.kept

@@ -1,0 +1,28 @@
+use Rattle.std.proofs.Common.{◌≡◌, ℕ, length, subst, ap, ◌∙◌, arith}
+use Rattle.std.specs.Prelude.{◌↔◌, slice_get, Some}
+use Rattle.crystal_spec.specs.Increasing.{IsMember}
+use Rattle.crystal_spec.specs.Crystals.{Structure}
+use Rattle.crystal_spec.specs.Operations.{Operation}
+use Rattle.crystal.specs.Views.{site_of}
+use Rattle.crystal.specs.Cells.{IsCell}
+use Rattle.prim_cell.specs.Candidates.{IsFromAtoms}
+use Rattle.prim_cell.proofs.Found.{found_more, found_all}
+use Rattle.prim_cell.proofs.translation.pure_shifts.Goals as goal
+
+pub loop-onto-preserved : goal.loop-onto-preserved
+loop-onto-preserved c = record {
+  n = c.in_ok-add_onto.ensures.n;
+  members = λ o. found_more c.args.places.now c.rarest-from.result c.loop-onto.onto o _ _ (c.loop-onto.invariant.members o) (c.in_ok-add_onto.ensures.members o);
+}
+
+pub returns-clause-exact : goal.returns-clause-exact
+returns-clause-exact c =
+    let s = c.args.places.now in
+    let same = c.cell-cell.ensures in
+    let from = site_of c.atom-first.result.now in
+    let all : c.count-onto-end.result ≡ length s.sites = c.count-onto-end.ensures.value ∙ ap (λ (t : Structure). length t.sites) same in
+    let ended : c.loop-onto.onto ≡ length s.sites = omega arith in
+    found_all s c.rarest-from.result from c.loop-onto.found.operations (subst IsCell same c.count-onto-end.ensures.form)
+    (subst (λ (t : Structure). slice_get t.sites c.rarest-from.result ≡ Some from) same c.atom-first.ensures.value)
+    c.count-count.ensures.ordered
+    (subst (λ (k : ℕ). (o : Operation) → IsMember o c.loop-onto.found.operations ↔ IsFromAtoms s c.rarest-from.result k o) ended c.loop-onto.invariant.members)

@@ -1,0 +1,4 @@
+pub mod Candidates
+pub mod Sizes
+pub mod Rebasing
+pub mod Primitives

@@ -1,0 +1,152 @@
+// The pure translations.
+
+ghost use Rattle.std.specs.Prelude.{◌≡◌, ◌↔◌, ◌<◌, ◌⊎◌, length, pos, IfOk, OnOk, IsTrue};
+ghost use Rattle.crystal_spec.specs.Increasing.{IsMember};
+ghost use Rattle.crystal_spec.specs.Matrices.{identity};
+ghost use Rattle.crystal_spec.specs.Operations.{Operation, IsWithinCell};
+ghost use Rattle.crystal.specs.Views.{site_of, triple_of};
+ghost use Rattle.crystal.specs.Carrying.{HasImage, HaveImages};
+ghost use Rattle.basis_spec.specs.Translations.{IsTranslation, ListsPureTranslations};
+ghost use Rattle.prim_cell.specs.Candidates.{IsOnto};
+
+use crate::modulo::{between, moved};
+use crystal::{Atom, Cell, Places, Sign};
+use exact_num::Int;
+use matrix3::Mat3;
+use op_group::{Op, OpList};
+use std::alloc::{AllocError, Global};
+
+/// How many atoms of the cell are of this species.
+fn count_of(cell: &Cell, species: u16) -> usize {
+    let mut count = 0;
+    for i in 0..cell.count() {
+        if cell.atom(i).species == species {
+            count += 1;
+        }
+    }
+    count
+}
+
+/// The number of the first atom of a rarest species.
+fn rarest(cell: &Cell) -> usize
+    ensures { result < length cell.now.sites }
+{
+    let atoms = cell.count();
+    let mut least = count_of(cell, cell.atom(0).species);
+    let mut rarest = 0;
+    for i in 1..atoms {
+        let count = count_of(cell, cell.atom(i).species);
+        if count < least {
+            least = count;
+            rarest = i;
+        }
+    }
+    rarest
+}
+
+/// Whether two atoms have one species and one moment.
+fn is_alike(a: &Atom, b: &Atom) -> bool
+    ensures { IsTrue result ↔ ((a.now.species ≡ b.now.species) × (a.now.moment ≡ b.now.moment)) }
+{
+    a.species == b.species && a.moment == b.moment
+}
+
+/// Whether the translation carries an atom to an atom of its species with its moment.
+fn has_image(places: &Places, shift: [u32; 3], atom: &Atom) -> bool
+    requires shift { IsWithinCell places.now.n (triple_of shift) }
+    requires place { IsWithinCell places.now.n (triple_of atom.now.place) }
+    ensures { IsTrue result ↔ HasImage places.now identity (triple_of shift) (pos 1) (site_of atom.now) }
+{
+    let cell = places.cell();
+    let _form = cell.count();
+    match places.occupant(moved(atom.place, shift, cell.n())) {
+        Some(i) => is_alike(cell.atom(i), atom),
+        None => false,
+    }
+}
+
+/// Whether it does so for each atom of the cell. Ends at the first atom for which it doesn't.
+fn have_images(places: &Places, shift: [u32; 3]) -> bool
+    requires { IsWithinCell places.now.n (triple_of shift) }
+    ensures { IsTrue result ↔ HaveImages places.now identity (triple_of shift) (pos 1) places.now.sites }
+{
+    let cell = places.cell();
+    for i in 0..cell.count() {
+        if !has_image(places, shift, cell.atom(i)) {
+            return false;
+        }
+    }
+    true
+}
+
+/// Whether the translation keeps the crystal.
+fn is_translation(places: &Places, shift: [u32; 3]) -> bool
+    requires { IsWithinCell places.now.n (triple_of shift) }
+    ensures { IsTrue result ↔ IsTranslation places.now (triple_of shift) }
+{
+    let _form = places.cell().count();
+    have_images(places, shift)
+}
+
+/// The matrix of a translation.
+fn identity() -> Mat3<Int>
+    ensures { result ≡ identity }
+{
+    let zero = Int::new(0).unwrap();
+    let one = Int::new(1).unwrap();
+    Mat3 {
+        a11: one,
+        a12: zero,
+        a13: zero,
+        a21: zero,
+        a22: one,
+        a23: zero,
+        a31: zero,
+        a32: zero,
+        a33: one,
+    }
+}
+
+/// Puts the translation that carries one atom onto another of its species into the list, where it keeps the crystal.
+fn add_onto(places: &Places, from: usize, onto: usize, found: &mut OpList) -> Result<(), AllocError>
+    requires from { from < length places.now.sites }
+    requires onto { onto < length places.now.sites }
+    requires n { found.old.n ≡ places.now.n }
+    ensures n { found.new.n ≡ places.now.n }
+    ensures members { OnOk result ((o : Operation) → IsMember o found.new.operations ↔ (IsOnto places.now from onto o ⊎ IsMember o found.old.operations)) }
+{
+    let cell = places.cell();
+    let _form = cell.count();
+    let first = cell.atom(from);
+    let atom = cell.atom(onto);
+    if atom.species != first.species {
+        return Ok(());
+    }
+    let w = identity();
+    let shift = between(first.place, atom.place, cell.n());
+    let sign = Sign::Same;
+    if is_translation(places, shift) {
+        found.insert(Op { w, shift, sign })?;
+    }
+    Ok(())
+}
+
+/// The pure translations of the crystal: those that keep each atom and its moment.
+///
+/// As operations (I, t, +1), with t in units of 1/n and each coordinate from 0 to n - 1, in order; t = (0, 0, 0) is among
+/// them. A pure translation carries any atom to one of its species, so only those that carry an atom of a rarest species
+/// so are tried. Refuses for want of memory alone.
+pub fn pure_shifts(alloc: Global, places: &Places) -> Result<OpList, AllocError>
+    ensures n { IfOk result (λ list. list.n ≡ places.now.n) }
+    ensures exact { IfOk result (λ list. ListsPureTranslations places.now list.operations) }
+{
+    let cell = places.cell();
+    let from = rarest(cell);
+    let mut found = OpList::new(alloc, cell.n());
+    for onto in 0..cell.count() {
+        add_onto(places, from, onto, &mut found)?;
+    }
+    let _first = cell.atom(from);
+    let _count = found.count();
+    Ok(found)
+}
