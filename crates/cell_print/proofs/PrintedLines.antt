@@ -160,5 +160,5 @@ cell_file_text-lines c hd hn hk small plain =
     (lines_line (metric_line c) (atoms_text c c.sites ++ (end_word ++ 10 ∷ [])) (metric_line-bytes c hd small)
     ∙ ap (λ (ls : List (List ℕ)). metric_line c ∷ ls) (atoms_text-lines c c.sites (end_word ++ 10 ∷ []) hn hk plain))
   where
-    pieces : (a b d : List ℕ) → ((((a ++ 10 ∷ []) ++ (b ++ 10 ∷ [])) ++ d) ++ (end_word ++ 10 ∷ [])) ≡ a ++ 10 ∷ (b ++ 10 ∷ (d ++ (end_word ++ 10 ∷ [])))
+    pieces : (a b d : List ℕ) → (a ++ 10 ∷ []) ++ (((b ++ 10 ∷ []) ++ d) ++ (end_word ++ 10 ∷ [])) ≡ a ++ 10 ∷ (b ++ 10 ∷ (d ++ (end_word ++ 10 ∷ [])))
     pieces a b d = simp append_assoc

@@ -7,6 +7,7 @@
 --   position_text n p      a position in units of 1/n
 --   moment_text k m        a moment in units of 1/k, or nothing where it is 0
 --   atom_text c s          the line of an atom of the cell
+--   cell_lines_text c      the lines of a cell behind the first
 --   cell_file_text c       the text of a cell
 -- The format is our own.
 use Rattle.std.specs.Prelude.{ℕ, zero, suc, ◌/◌, ℤ, pos, negsuc, Bool, true, false, ◌&&◌, List, [], ◌∷◌, ◌++◌, codes, get_or, unsigned_abs, if◌then◌else◌}
@@ -74,6 +75,10 @@ abbrev pub atoms_text : Structure → List Site → List ℕ
 atoms_text c [] = []
 atoms_text c (s ∷ sites) = atom_text c s ++ atoms_text c sites
 
+-- the lines behind the first: the metric line, the atoms and `end`
+abbrev pub cell_lines_text : Structure → List ℕ
+cell_lines_text c = metric_text (unsigned_abs c.scale) c.metric ++ atoms_text c c.sites ++ codes "end\n"
+
 -- the cell file of a cell
 abbrev pub cell_file_text : Structure → List ℕ
-cell_file_text c = codes "magcell 1\n" ++ metric_text (unsigned_abs c.scale) c.metric ++ atoms_text c c.sites ++ codes "end\n"
+cell_file_text c = codes "magcell 1\n" ++ cell_lines_text c

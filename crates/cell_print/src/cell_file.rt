@@ -3,7 +3,7 @@ ghost use Rattle.std.specs.Prelude.{◌≡◌, ◌++◌, IfOk, OnOk, length, ◌
 ghost use Rattle.crystal.specs.Views.{metric_of, site_of, triple_of};
 ghost use Rattle.cell_text.specs.CellFile.{Spells};
 ghost use Rattle.cell_print.specs.Printable.{IsPrintable};
-ghost use Rattle.cell_print.specs.CellFileText.{scalar_products, numbers_text, position_text, metric_text, moment_text, atom_text, atoms_text, cell_file_text};
+ghost use Rattle.cell_print.specs.CellFileText.{scalar_products, numbers_text, position_text, metric_text, moment_text, atom_text, atoms_text, cell_lines_text, cell_file_text};
 
 use crate::fractions::push_numbers;
 use crystal::{Atom, Cell, Metric, Name};
@@ -110,6 +110,21 @@ fn push_atoms(alloc: Global, out: &mut Bytes, cell: &Cell) -> Result<(), AllocEr
     Ok(())
 }
 
+/// Adds the lines of the cell file of a cell behind its first: the metric tensor, one line an atom in order, and `end`.
+///
+/// Each number is in lowest terms, and a moment of 0 0 0 is left out. Refuses for want of memory alone; what is added then
+/// is left open.
+pub fn push_cell(alloc: Global, out: &mut Bytes, cell: &Cell) -> Result<(), AllocError>
+    ensures { OnOk result (out.new ≡ out.old ++ cell_lines_text cell.now) }
+{
+    let _form = cell.count();
+    let scale = cell.scale().get().unsigned_abs();
+    push_metric(alloc, out, scale, cell.metric())?;
+    push_atoms(alloc, out, cell)?;
+    out.append(b"end\n")?;
+    Ok(())
+}
+
 /// The cell file of a cell.
 ///
 /// Each number is in lowest terms, and a moment of 0 0 0 is left out. A cell whose units are the least ones, within the
@@ -120,9 +135,6 @@ pub fn print_cell(alloc: Global, cell: &Cell) -> Result<Bytes, AllocError>
 {
     let _form = cell.count();
     let mut out = Bytes::copy(alloc, b"magcell 1\n")?;
-    let scale = cell.scale().get().unsigned_abs();
-    push_metric(alloc, &mut out, scale, cell.metric())?;
-    push_atoms(alloc, &mut out, cell)?;
-    out.append(b"end\n")?;
+    push_cell(alloc, &mut out, cell)?;
     Ok(out)
 }

@@ -7,7 +7,7 @@
 mod cell_file;
 mod fractions;
 
-pub use cell_file::print_cell;
+pub use cell_file::{print_cell, push_cell};
 
 #[cfg(test)]
 mod tests;

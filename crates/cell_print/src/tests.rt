@@ -21,8 +21,12 @@ fn printed(alloc: Global, text: &[u8]) -> Result<Bytes, Fail> {
 fn numbers_are_in_lowest_terms(rt: HostRuntime) -> Result<(), Fail> {
     for (text, wanted) in [
         (
-            b"magcell 1\nmetric 4/4 2/2 3/1 0 0 0\natom A 0 0 0\nend\n".as_slice(),
-            b"magcell 1\nmetric 1 1 3 0 0 0\natom A 0 0 0\nend\n".as_slice(),
+            b"magcell 1\nmetric 1 1 4 0 0 0\natom A 0 0 0 0 0 1\natom A 0 0 1/2 0 0 -1\nend\n".as_slice(),
+            b"magcell 1\nmetric 1 1 4 0 0 0\natom A 0 0 0 0 0 1\natom A 0 0 1/2 0 0 -1\nend\n".as_slice(),
+        ),
+        (
+            b"magcell 1\nmetric 4/4 2/2 3/1 0 0 0\natom A 0 0 0\nend\n",
+            b"magcell 1\nmetric 1 1 3 0 0 0\natom A 0 0 0\nend\n",
         ),
         (
             b"magcell 1\r\n# MnF2\r\natom Mn 0 0 0 0 0 2/2\r\natom Mn 2/4 1/2 3/6 0 0 -1\r\natom F -61/200 1 61/200 0/7 0 0\r\nmetric 2375/100 2375/100 1096/100 0 0 0\r\nend",

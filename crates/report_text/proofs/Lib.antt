@@ -1,3 +1,4 @@
 mod KnownValues
 pub mod LineLemmas
 mod PageLemmas
+pub mod PrimitiveLemmas

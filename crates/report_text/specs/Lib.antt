@@ -1,2 +1,3 @@
 pub mod OperationText
 pub mod Pages
+pub mod PrimitiveText

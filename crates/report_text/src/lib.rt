@@ -2,14 +2,19 @@
 //!
 //! Each line of a report ends with LF. A list of symmetry operations is one line an operation, as `-y,x,z+1/2,-1`:
 //! the image of a position x, y, z in three parts, one a coordinate, and the time sign. `specs/OperationText.antt`
-//! says the texts in full.
+//! says the texts in full. The text of a primitive cell is a cell file with comments (`specs/PrimitiveText.antt`).
 #![tactic(auto)]
 
 mod operations;
 mod pages;
+mod primitives;
 
+pub use cell_print::print_cell;
 pub use operations::ops_report;
 pub use pages::pages_resume;
+pub use primitives::prim_report;
 
+#[cfg(test)]
+mod cell_tests;
 #[cfg(test)]
 mod tests;

@@ -6,5 +6,5 @@ use Rattle.cell_print.proofs.cell_file.print_cell.Goals as goal
 
 pub returns-clause-spelled : goal.returns-clause-spelled
 returns-clause-spelled c =
-    let value : c.append.new.self ≡ cell_file_text c.args.cell.now = search rules in
+    let value : c.push_cell.new.out ≡ cell_file_text c.args.cell.now = search rules in
     λ printable. subst (λ (text : List ℕ). Spells text c.args.cell.now) (sym value) (cell_file_text-spells c.args.cell.now c.count-form.ensures.form printable)

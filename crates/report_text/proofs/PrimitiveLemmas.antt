@@ -1,0 +1,29 @@
+-- The text of a primitive cell, piece by piece.
+use Rattle.std.proofs.Common.{◌≡◌, ap, ◌∙◌, ℕ, List, ◌++◌, append_assoc}
+use Rattle.std.specs.Prelude.{codes}
+use Rattle.std.specs.Fmt.{decimal}
+use Rattle.crystal_spec.specs.Matrices.{Matrix}
+use Rattle.crystal_spec.specs.Crystals.{Structure}
+use Rattle.prim_cell.specs.Primitives.{PrimitiveCell}
+use Rattle.cell_print.specs.CellFileText.{cell_lines_text}
+use Rattle.report_text.specs.PrimitiveText.{entries_text, cell_in_basis_text, primitive_text}
+
+pieces : (a b d h e l s : List ℕ) → ((a ++ ((b ++ d) ++ s)) ++ ((h ++ e) ++ s)) ++ l ≡ (((((a ++ b) ++ d) ++ (s ++ h)) ++ e) ++ s) ++ l
+pieces a b d h e l s = simp append_assoc
+
+-- the first line, the index, Q, and the lines of the cell
+pub cell_from_pieces : (index : ℕ) (back : Matrix) (cell : Structure) (n1 n2 n3 n4 : List ℕ) →
+    n1 ≡ codes "magcell 1\n" → n2 ≡ n1 ++ (codes "# index " ++ decimal index ++ codes "\n") →
+    n3 ≡ n2 ++ (codes "# back" ++ entries_text back ++ codes "\n") → n4 ≡ n3 ++ cell_lines_text cell →
+    n4 ≡ cell_in_basis_text index back cell
+unfolding cell_in_basis_text
+cell_from_pieces index back cell n1 n2 n3 n4 e1 e2 e3 e4 =
+    let two : n2 ≡ codes "magcell 1\n" ++ (codes "# index " ++ decimal index ++ codes "\n") = e2 ∙ ap (λ (z : List ℕ). z ++ (codes "# index " ++ decimal index ++ codes "\n")) e1 in
+    let three : n3 ≡ (codes "magcell 1\n" ++ (codes "# index " ++ decimal index ++ codes "\n")) ++ (codes "# back" ++ entries_text back ++ codes "\n") = e3 ∙ ap (λ (z : List ℕ). z ++ (codes "# back" ++ entries_text back ++ codes "\n")) two in
+    e4 ∙ ap (λ (z : List ℕ). z ++ cell_lines_text cell) three
+    ∙ pieces (codes "magcell 1\n") (codes "# index ") (decimal index) (codes "# back") (entries_text back) (cell_lines_text cell) (codes "\n")
+
+-- the index, Q and the cell are those of the primitive cell
+pub primitive_from_parts : (p : PrimitiveCell) (index : ℕ) (back : Matrix) (cell : Structure) → index ≡ p.index → back ≡ p.back → cell ≡ p.cell → cell_in_basis_text index back cell ≡ primitive_text p
+primitive_from_parts p index back cell i b c =
+    ap (λ (n : ℕ). cell_in_basis_text n back cell) i ∙ ap (λ (q : Matrix). cell_in_basis_text p.index q cell) b ∙ ap (cell_in_basis_text p.index p.back) c

@@ -1,0 +1,7 @@
+use Rattle.std.proofs.Common.{◌≡◌, ◌++◌, drop}
+use Rattle.report_text.specs.PrimitiveText.{integers_text}
+use Rattle.report_text.proofs.primitives.push_integers.Given as goal
+
+-- the integers so far, and those that are left
+abbrev pub invariant-loop-integer : goal.invariant-loop-integer
+invariant-loop-integer l = l.out ++ integers_text (drop l.integer-index l.integers) ≡ l.initial.out ++ integers_text l.integers

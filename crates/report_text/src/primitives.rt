@@ -1,0 +1,75 @@
+// The text of a primitive cell.
+ghost use Rattle.std.specs.Prelude.{◌≡◌, ◌++◌, decimal, codes, IfOk, OnOk};
+ghost use Rattle.report_text.specs.PrimitiveText.{integers_text, entries_text, primitive_text};
+
+use cell_print::push_cell;
+use exact_num::Int;
+use io_edge::Bytes;
+use matrix3::Mat3;
+use prim_cell::Primitive;
+use std::alloc::{AllocError, Global};
+
+/// Adds the index as a comment.
+fn push_index(alloc: Global, out: &mut Bytes, index: u32) -> Result<(), AllocError>
+    ensures { OnOk result (out.new ≡ out.old ++ (codes "# index " ++ decimal index ++ codes "\n")) }
+{
+    let digits = index.to_string(alloc)?;
+    out.append(b"# index ")?;
+    out.append(digits.as_bytes())?;
+    out.push(b'\n')?;
+    Ok(())
+}
+
+/// Adds integers in decimal, a space before each.
+fn push_integers(alloc: Global, out: &mut Bytes, integers: &[i128]) -> Result<(), AllocError>
+    ensures { OnOk result (out.new ≡ out.old ++ integers_text integers.now) }
+{
+    for integer in integers {
+        let digits = integer.to_string(alloc)?;
+        out.push(b' ')?;
+        out.append(digits.as_bytes())?;
+    }
+    Ok(())
+}
+
+/// Adds the entries of a matrix, row by row.
+fn push_entries(alloc: Global, out: &mut Bytes, matrix: &Mat3<Int>) -> Result<(), AllocError>
+    ensures { OnOk result (out.new ≡ out.old ++ entries_text matrix.now) }
+{
+    let q = *matrix;
+    let entries = [
+        q.a11.get(),
+        q.a12.get(),
+        q.a13.get(),
+        q.a21.get(),
+        q.a22.get(),
+        q.a23.get(),
+        q.a31.get(),
+        q.a32.get(),
+        q.a33.get(),
+    ];
+    push_integers(alloc, out, &entries)
+}
+
+/// Adds Q as a comment.
+fn push_back(alloc: Global, out: &mut Bytes, back: &Mat3<Int>) -> Result<(), AllocError>
+    ensures { OnOk result (out.new ≡ out.old ++ (codes "# back" ++ entries_text back.now ++ codes "\n")) }
+{
+    out.append(b"# back")?;
+    push_entries(alloc, out, back)?;
+    out.push(b'\n')?;
+    Ok(())
+}
+
+/// The text of a primitive cell: its cell file, with the index and Q = P⁻¹ as comments behind the first line.
+///
+/// The entries of Q stand row by row. Refuses for want of memory alone.
+pub fn prim_report(alloc: Global, prim: &Primitive) -> Result<Bytes, AllocError>
+    ensures { IfOk result (λ text. text ≡ primitive_text prim.now) }
+{
+    let mut out = Bytes::copy(alloc, b"magcell 1\n")?;
+    push_index(alloc, &mut out, prim.index())?;
+    push_back(alloc, &mut out, prim.back())?;
+    push_cell(alloc, &mut out, prim.cell())?;
+    Ok(out)
+}
