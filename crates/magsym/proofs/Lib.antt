@@ -2,3 +2,4 @@ mod Complete
 mod TellingLemmas
 pub mod CountLemmas
 pub mod OptionLemmas
+pub mod SpelledSizes

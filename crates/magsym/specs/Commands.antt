@@ -4,23 +4,22 @@
 --   with_word o word     with one more word, or its fault
 --   asked o              what the options ask for, where no word is left
 --   options o words      what the options ask for with all these words more, or the first fault from the left
+--   alone c words        the command c, behind whose name no word may stand
 --   command words        the command, or the first fault from the left
 -- The word behind `--skip` or `--take` is its value, whatever it is. An option that was given before is told as such also
 -- where it has no value.
 use Rattle.std.specs.Prelude.{ℕ, Bool, true, false, List, [], ◌∷◌, length, nat_eq, nat_le, ◌&&◌, if◌then◌else◌, codes}
 use Rattle.std.specs.Cmp.Lexicographic.{pointwise}
-use Rattle.std.specs.declared.option.Option.{Option}
 use Rattle.std.specs.declared.option.Option.TheVariants.{Some, None}
 use Rattle.std.specs.declared.result.Result.{Result}
 use Rattle.std.specs.declared.result.Result.TheVariants.{Ok, Err}
 use Rattle.cell_text.specs.Numbers.{is_digits, decimal}
-use Rattle.magsym.specs.declared.options.Awaited.{Awaited}
 use Rattle.magsym.specs.declared.options.Awaited.TheVariants.{AnyOption, ValueOfSkip, ValueOfTake}
 use Rattle.magsym.specs.declared.options.Options.{Options}
 use Rattle.magsym.specs.declared.command.Command.{Command}
-use Rattle.magsym.specs.declared.command.Command.TheVariants.{Symmetry}
+use Rattle.magsym.specs.declared.command.Command.TheVariants.{Symmetry, Primitive}
 use Rattle.magsym.specs.declared.command.UsageFault.{UsageFault}
-use Rattle.magsym.specs.declared.command.UsageFault.TheVariants.{NoCommand, UnknownCommand, UnknownOption, RepeatedOption, MissingValue, BadValue}
+use Rattle.magsym.specs.declared.command.UsageFault.TheVariants.{NoCommand, UnknownCommand, UnknownOption, RepeatedOption, MissingValue, BadValue, ExtraWord}
 
 -- the two words have the same bytes
 abbrev pub same_word : List ℕ → List ℕ → Bool
@@ -83,6 +82,15 @@ abbrev pub options : Options → List (List ℕ) → Result Command UsageFault
 options o [] = asked o
 options o (word ∷ later) = elim (with_word o word) [ Ok read ↦ options read later | Err fault ↦ Err fault ]
 
+-- no word is left
+abbrev pub alone : Command → List (List ℕ) → Result Command UsageFault
+alone c [] = Ok c
+alone c (word ∷ later) = Err ExtraWord
+
+-- the first word is the name
 abbrev pub command : List (List ℕ) → Result Command UsageFault
 command [] = Err NoCommand
-command (name ∷ later) = if same_word name (codes "symmetry") then options no_options later else Err UnknownCommand
+command (name ∷ later) =
+    if same_word name (codes "symmetry") then options no_options later
+    else if same_word name (codes "primitive") then alone Primitive later
+    else Err UnknownCommand

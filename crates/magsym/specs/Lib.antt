@@ -3,3 +3,4 @@ pub mod Statuses
 pub mod Telling
 pub mod Outcomes
 pub mod Completeness
+pub mod Spelled

@@ -2,26 +2,33 @@
 --   Streams                the input and the output, before and after
 --   ReadWhole s text       all of the input is this text, and its end was seen
 --   SymmetryReport c time skip most bytes   the lines of a page of the symmetry operations of the crystal c
---   IsReport command c bytes                the report that the command asks for on the crystal c
+--   IsPrimitiveReport c q bytes             the text of the primitive cell of c in the basis to which q takes coordinates
+--   IsReport command c kept bytes           the report that the command asks for on the crystal c, and the basis it speaks of
+--   Accepts command c                       the command answers such cells
 --   IsUsage, IsRefusal     the words were outside the rule; no report was begun
 --   Outcome ws s status    what the status says, for these words and streams
-use Rattle.std.specs.Prelude.{◌≡◌, ℕ, ◌<◌, ◌≤◌, Bool, true, false, List, length, take}
+use Rattle.std.specs.Prelude.{◌≡◌, ℕ, pos, ◌<◌, ◌≤◌, Bool, true, false, List, length, take}
 use Rattle.std.specs.declared.option.Option.{Option}
 use Rattle.std.specs.declared.option.Option.TheVariants.{Some}
 use Rattle.std.specs.declared.result.Result.TheVariants.{Ok, Err}
 use Rattle.std.specs.Io.KnownBytes.{Appends, Consumes, IsAtEnd}
 use Rattle.io_edge.specs.Causes.{Rose}
+use Rattle.crystal_spec.specs.Matrices.{Matrix, determinant}
 use Rattle.crystal_spec.specs.Crystals.{Structure}
 use Rattle.crystal_spec.specs.Operations.{Operation}
 use Rattle.cell_text.specs.declared.fault.CellFault.{CellFault}
 use Rattle.cell_text.specs.Rules.{cell_fault}
 use Rattle.cell_text.specs.CellFile.{Spells}
+use Rattle.lattice_spec.specs.Niggli.{IsNiggli}
+use Rattle.basis_spec.specs.Bases.{cell_in_basis, IsPrimitiveIn}
 use Rattle.mag_ops.specs.Groups.{ListsGroup}
 use Rattle.mag_ops.specs.RightAngled.{IsRightAngled}
 use Rattle.report_text.specs.Pages.{page_text}
+use Rattle.report_text.specs.PrimitiveText.{cell_in_basis_text}
 use Rattle.magsym.specs.declared.command.Command.{Command}
-use Rattle.magsym.specs.declared.command.Command.TheVariants.{Symmetry}
-use Rattle.magsym.specs.declared.status.Kept.TheVariants.{NoBase}
+use Rattle.magsym.specs.declared.command.Command.TheVariants.{Symmetry, Primitive}
+use Rattle.magsym.specs.declared.status.Kept.{Kept}
+use Rattle.magsym.specs.declared.status.Kept.TheVariants.{NoBase, Back}
 use Rattle.magsym.specs.declared.status.Status.{Status}
 use Rattle.magsym.specs.declared.status.Status.TheVariants.{Done, Usage, CellTooLong, CellRefused, NotRightAngled, ReadFault, WriteFault, Memory}
 use Rattle.magsym.specs.Commands.{command}
@@ -53,36 +60,53 @@ pub record SymmetryReport (c : Structure) (time : Bool) (skip : ℕ) (most : Opt
   pub all : ListsGroup c time operations
   pub lines : bytes ≡ page_text (record { n = c.n; operations = operations }) skip most
 
--- the report that the command asks for
-abbrev pub IsReport : Command → Structure → List ℕ → Type 0
-IsReport (Symmetry time skip most) c bytes = SymmetryReport c time skip most bytes
+-- Q takes coordinates to those in a Niggli-reduced basis of all translations of the crystal, and the bytes are the text of
+-- the cell there, with its index and Q.
+pub record IsPrimitiveReport (c : Structure) (q : Matrix) (bytes : List ℕ) : Type 0 where
+  pub primitive : IsPrimitiveIn c q
+  pub niggli : IsNiggli (cell_in_basis c q).metric
+  pub index : ℕ
+  pub index_is : pos index ≡ determinant q
+  pub lines : bytes ≡ cell_in_basis_text index q (cell_in_basis c q)
+
+-- the report that the command asks for, which speaks of this basis
+abbrev pub IsReport : Command → Structure → Kept → List ℕ → Type 0
+IsReport (Symmetry time skip most) c NoBase bytes = SymmetryReport c time skip most bytes
+IsReport (Symmetry time skip most) c (Back q) bytes = ⊥
+IsReport Primitive c NoBase bytes = ⊥
+IsReport Primitive c (Back q) bytes = IsPrimitiveReport c q bytes
+
+-- `symmetry` asks for axes at right angles
+abbrev pub Accepts : Command → Structure → Type 0
+Accepts (Symmetry time skip most) c = IsRightAngled c.metric
+Accepts Primitive c = Unit {0}
 
 -- the words ask for a command
 pub record IsAsked (ws : List (List ℕ)) : Type 0 where
   pub request : Command
   pub asked : command ws ≡ Ok request
 
--- the input is the text of a cell at right angles, and the report is the one that the words ask for on its crystal
-pub record Answers (ws : List (List ℕ)) (s : Streams) (report : List ℕ) : Type 0 where
+-- the input is the text of a cell that the command accepts, and the report is the one that the words ask for on its crystal
+pub record Answers (ws : List (List ℕ)) (s : Streams) (kept : Kept) (report : List ℕ) : Type 0 where
   pub request : Command
   pub asked : command ws ≡ Ok request
   pub text : List ℕ
   pub read : ReadWhole s text
   pub cell : Structure
   pub spelled : Spells text cell
-  pub right_angled : IsRightAngled cell.metric
-  pub is_report : IsReport request cell report
+  pub accepted : Accepts request cell
+  pub is_report : IsReport request cell kept report
 
 -- the whole report was appended to the output
-pub record WritesReport (ws : List (List ℕ)) (s : Streams) : Type 0 where
+pub record WritesReport (ws : List (List ℕ)) (s : Streams) (kept : Kept) : Type 0 where
   pub report : List ℕ
-  pub answers : Answers ws s report
+  pub answers : Answers ws s kept report
   pub appended : Appends s.held s.held_after report
 
 -- so many first bytes of the report were appended, fewer than all, and the output failed
-pub record WritesPart (ws : List (List ℕ)) (s : Streams) (written : ℕ) : Type 0 where
+pub record WritesPart (ws : List (List ℕ)) (s : Streams) (kept : Kept) (written : ℕ) : Type 0 where
   pub report : List ℕ
-  pub answers : Answers ws s report
+  pub answers : Answers ws s kept report
   pub fewer : written < length report
   pub appended : Appends s.held s.held_after (take written report)
   pub cause : Rose s.out_faults s.out_faults_after
@@ -93,13 +117,15 @@ pub record BreaksRule (s : Streams) (line : ℕ) (fault : CellFault) : Type 0 wh
   pub read : ReadWhole s text
   pub first : cell_fault text ≡ Some (line, fault)
 
--- the input was read to its end, and spells a cell whose axes are not at right angles
-pub record SpellsOblique (s : Streams) : Type 0 where
+-- the input was read to its end, and spells a cell whose axes are not at right angles, as the command would ask
+pub record SpellsOblique (ws : List (List ℕ)) (s : Streams) : Type 0 where
+  pub request : Command
+  pub asked : command ws ≡ Ok request
   pub text : List ℕ
   pub read : ReadWhole s text
   pub cell : Structure
   pub spelled : Spells text cell
-  pub oblique : IsRightAngled cell.metric → ⊥
+  pub oblique : Accepts request cell → ⊥
 
 -- 262,145 bytes of the input were taken before an end or a fault
 pub record IsTooLong (s : Streams) : Type 0 where
@@ -142,10 +168,10 @@ IsRefusal Memory = Unit {0}
 -- than Done and WriteFault leaves the output as it was. Want of memory alone is free.
 abbrev pub Outcome : List (List ℕ) → Streams → Status → Type 0
 Outcome ws s (Usage fault) = command ws ≡ Err fault
-Outcome ws s (Done NoBase) = WritesReport ws s
-Outcome ws s (WriteFault written NoBase) = WritesPart ws s written
+Outcome ws s (Done kept) = WritesReport ws s kept
+Outcome ws s (WriteFault written kept) = WritesPart ws s kept written
 Outcome ws s (CellRefused line fault) = IsAsked ws × BreaksRule s line fault
-Outcome ws s NotRightAngled = IsAsked ws × SpellsOblique s
+Outcome ws s NotRightAngled = SpellsOblique ws s
 Outcome ws s CellTooLong = IsAsked ws × IsTooLong s
 Outcome ws s ReadFault = IsAsked ws × FailsToRead s
 Outcome ws s Memory = IsAsked ws

@@ -6,7 +6,7 @@ use Rattle.std.specs.Prelude.{ℕ, List, [], ◌∷◌, ◌++◌, codes, decimal
 use Rattle.cell_text.specs.declared.fault.CellFault.{CellFault}
 use Rattle.cell_text.specs.declared.fault.CellFault.TheVariants.{NotMagcell, BadByte, BadLine, BadNumber, NumberRange, ZeroDenominator, MetricTwice, MetricMissing, MetricRange, NotPositive, PositionRange, MomentRange, TooManyAtoms, NoAtom, SamePlace, NoEnd, AfterEnd}
 use Rattle.magsym.specs.declared.command.UsageFault.{UsageFault}
-use Rattle.magsym.specs.declared.command.UsageFault.TheVariants.{NoCommand, UnknownCommand, UnknownOption, RepeatedOption, MissingValue, BadValue}
+use Rattle.magsym.specs.declared.command.UsageFault.TheVariants.{NoCommand, UnknownCommand, UnknownOption, RepeatedOption, MissingValue, BadValue, ExtraWord}
 use Rattle.magsym.specs.declared.status.Status.{Status}
 use Rattle.magsym.specs.declared.status.Status.TheVariants.{Done, Usage, CellTooLong, CellRefused, NotRightAngled, ReadFault, WriteFault, Memory}
 
@@ -31,6 +31,7 @@ usage_line UnknownOption = told (codes "unknown option")
 usage_line RepeatedOption = told (codes "option given twice")
 usage_line MissingValue = told (codes "option needs a value")
 usage_line BadValue = told (codes "value is not a number of 1 to 9 digits")
+usage_line ExtraWord = told (codes "too many words")
 
 -- lines and atoms are counted from 1
 abbrev pub fault_line : CellFault → List ℕ

@@ -1,5 +1,5 @@
 ghost use Rattle.std.specs.Prelude.{◌≡◌, drop};
-ghost use Rattle.magsym.specs.Commands.{command, no_options, options};
+ghost use Rattle.magsym.specs.Commands.{command, alone, no_options, options};
 
 use crate::options::Options;
 use crate::words::Words;
@@ -14,6 +14,9 @@ pub enum Command {
         skip: u32,
         take: Option<u32>,
     },
+
+    /// The primitive cell, in a Niggli-reduced basis.
+    Primitive,
 }
 
 /// Why the words ask for nothing: the first fault from the left.
@@ -36,6 +39,9 @@ pub enum UsageFault {
 
     /// The value of an option does not have 1 to 9 digits and nothing else.
     BadValue,
+
+    /// There are words behind those that the command takes.
+    ExtraWord,
 }
 
 /// What the words behind `symmetry` ask for, or their first fault from the left.
@@ -49,6 +55,16 @@ fn read_options(words: &Words) -> Result<Command, UsageFault>
     read.command()
 }
 
+/// The command, behind whose name no word may stand.
+fn alone(command: Command, words: &Words) -> Result<Command, UsageFault>
+    ensures { result ≡ alone command (drop 1 words.now) }
+{
+    if words.count() > 1 {
+        return Err(UsageFault::ExtraWord);
+    }
+    Ok(command)
+}
+
 /// What the words ask for, or their first fault from the left. It takes no memory.
 pub fn read_words(words: &Words) -> Result<Command, UsageFault>
     ensures { result ≡ command words.now }
@@ -56,8 +72,12 @@ pub fn read_words(words: &Words) -> Result<Command, UsageFault>
     if words.count() == 0 {
         return Err(UsageFault::NoCommand);
     }
-    if words.word(0) != b"symmetry".as_slice() {
-        return Err(UsageFault::UnknownCommand);
+    let name = words.word(0);
+    if name == b"symmetry".as_slice() {
+        return read_options(words);
     }
-    read_options(words)
+    if name == b"primitive".as_slice() {
+        return alone(Command::Primitive, words);
+    }
+    Err(UsageFault::UnknownCommand)
 }

@@ -7,6 +7,7 @@
 
 mod command;
 mod options;
+mod report;
 mod run;
 mod status;
 mod tell;

@@ -1,43 +1,22 @@
-ghost use Rattle.std.specs.Prelude.{◌≡◌, ◌<◌, ◌≤◌, IfOk};
-ghost use Rattle.mag_ops.specs.RightAngled.{IsRightAngled};
+ghost use Rattle.std.specs.Prelude.{◌≡◌, ◌<◌, ◌≤◌};
 ghost use Rattle.magsym.specs.Statuses.{line_of};
 ghost use Rattle.magsym.specs.Telling.{Tells};
-ghost use Rattle.magsym.specs.Outcomes.{Outcome, IsReport, IsRefusal, IsUsage};
+ghost use Rattle.magsym.specs.Outcomes.{Outcome, IsRefusal, IsUsage};
 ghost use Rattle.magsym.specs.Completeness.{IsAnswerable, IsDoneOrMemory};
 
-use crate::command::{Command, read_words};
-use crate::status::{Kept, Status};
+use crate::command::read_words;
+use crate::report::{accepts, report_of};
+use crate::status::Status;
 use crate::tell::tell;
 use crate::words::Words;
 use cell_text::{CellError, read_cell};
-use crystal::{Cell, Steps};
-use io_edge::{Bytes, InFault, Sink, Source, read_to_end, write_whole};
-use mag_ops::{cell_group, is_right_angled};
-use report_text::ops_report;
-use std::alloc::{AllocError, Global};
+use crystal::Steps;
+use io_edge::{InFault, Sink, Source, read_to_end, write_whole};
+use std::alloc::Global;
 use std::sync::ledger::{Blank, Ledger};
 
 /// The most bytes that the text of a cell can have.
 const CELL_LIMIT: usize = 262144;
-
-/// The report that the command asks for, on a cell whose axes are at right angles.
-fn report<L: Ledger>(
-    alloc: Global,
-    command: Command,
-    cell: &Cell,
-    steps: &mut Steps<L>,
-) -> Result<Bytes, AllocError>
-    requires { IsRightAngled cell.now.metric }
-    ensures { IfOk result (IsReport command cell.now) }
-{
-    let Command::Symmetry { time, skip, take } = command;
-    let list = cell_group(alloc, cell, time, steps)?;
-    let take = match take {
-        Some(most) => Some(most as u64),
-        None => None,
-    };
-    ops_report(alloc, &list, skip as u64, take)
-}
 
 /// The answer to the words, but for the line on the error stream.
 fn answer<I: Source, O: Sink, L: Ledger>(
@@ -68,15 +47,15 @@ fn answer<I: Source, O: Sink, L: Ledger>(
         Err(CellError::Refused(line, fault)) => return Status::CellRefused(line, fault),
         Err(CellError::Memory) => return Status::Memory,
     };
-    if !is_right_angled(cell.metric()) {
+    if !accepts(command, &cell) {
         return Status::NotRightAngled;
     }
-    let Ok(report) = report(alloc, command, &cell, steps) else {
+    let Ok(report) = report_of(alloc, command, &cell, steps) else {
         return Status::Memory;
     };
-    match write_whole(out, report.as_slice()) {
-        Ok(()) => Status::Done(Kept::NoBase),
-        Err(fault) => Status::WriteFault(fault.written, Kept::NoBase),
+    match write_whole(out, report.text.as_slice()) {
+        Ok(()) => Status::Done(report.kept),
+        Err(fault) => Status::WriteFault(fault.written, report.kept),
     }
 }
 

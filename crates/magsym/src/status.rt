@@ -3,12 +3,17 @@ ghost use Rattle.magsym.specs.Statuses.{number_of};
 
 use crate::command::UsageFault;
 use cell_text::CellFault;
+use exact_num::Int;
+use matrix3::Mat3;
 
-/// The reduced basis that a report speaks of.
+/// The basis that a report speaks of.
 #[derive(Clone, Copy, Debug, PartialEq, Eq)]
 pub enum Kept {
     /// The report speaks of no basis but that of the input.
     NoBase,
+
+    /// The report speaks of the basis to which Q = P⁻¹ takes coordinates, where P has its vectors as columns.
+    Back(Mat3<Int>),
 }
 
 /// How a run ended.

@@ -101,6 +101,7 @@ pub(crate) fn tell<E: Sink>(err: &mut E, status: &Status)
         Status::Usage(UsageFault::BadValue) => {
             b"magsym: value is not a number of 1 to 9 digits\n"
         }
+        Status::Usage(UsageFault::ExtraWord) => b"magsym: too many words\n",
         Status::CellTooLong => b"magsym: cell is longer than 262144 bytes\n",
         Status::NotRightAngled => b"magsym: cell is not right-angled\n",
         Status::ReadFault => b"magsym: reading failed\n",

@@ -1,6 +1,7 @@
 // What runs answer over inputs and outputs in memory. All values come from the description of the formats.
 mod faults;
 mod pages;
+mod primitive;
 mod symmetry;
 mod usage;
 

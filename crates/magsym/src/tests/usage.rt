@@ -97,6 +97,16 @@ fn faults_in_the_words_leave_the_input(rt: HostRuntime) -> Result<(), Fail> {
             UsageFault::BadValue,
             b"magsym: value is not a number of 1 to 9 digits\n",
         ),
+        (
+            [b"primitive".as_slice(), b"x"].as_slice(),
+            UsageFault::ExtraWord,
+            b"magsym: too many words\n",
+        ),
+        (
+            [b"primitive".as_slice(), b"--skip", b"1"].as_slice(),
+            UsageFault::ExtraWord,
+            b"magsym: too many words\n",
+        ),
     ] {
         let mut ran = answer_to(rt.alloc(), words, CUBIC, [0, 0, 0])?;
         assert_eq!(rt; ran.status, Status::Usage(fault));
