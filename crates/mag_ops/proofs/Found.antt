@@ -1,7 +1,7 @@
 -- What the search has found, step by step.
 --
--- A symmetry operation of matrix w carries the first atom onto an atom of its species, so its translation part is the one
--- that does so, for one of these atoms; and its matrix is an isometry, so it has a number.
+-- A symmetry operation of matrix w carries an atom onto an atom of its species, so its translation part is the one that does
+-- so, for one of these atoms; and its matrix is an isometry, so it is one of the list of all isometries.
 use Rattle.std.proofs.Common.{◌≡◌, refl, sym, ap, subst, ◌∙◌, ◌⊎◌, inl, inr, ℕ, zero, suc, ◌+◌, ◌<◌, List, [], ◌∷◌, ◌++◌, length, arith}
 use Rattle.std.specs.Prelude.{ℤ, pos, negsuc, ◌↔◌, Bool, true, false, slice_get, Some}
 use Rattle.ring.specs.Ring.{quoted, var, con}
@@ -11,17 +11,15 @@ use Rattle.crystal_spec.specs.declared.Sign.{Sign}
 use Rattle.crystal_spec.specs.declared.Sign.TheVariants.{Same, Reversed}
 use Rattle.crystal_spec.specs.Increasing.{IsIncreasing, IsMember, inserted}
 use Rattle.crystal_spec.specs.Matrices.{Matrix, Triple, image, multiple, sum_of, difference}
-use Rattle.crystal_spec.specs.Crystals.{Site, Structure, Keeps, KeepsMetric}
+use Rattle.crystal_spec.specs.Crystals.{Site, Structure, Keeps}
 use Rattle.crystal_spec.specs.Operations.{Operation, IsSymmetryOperation, compare_of, sign_factor}
 use Rattle.crystal_spec.proofs.Identities.{by_triples}
 use Rattle.crystal_spec.proofs.Images.{images_of_keeps, same_within}
 use Rattle.crystal_spec.proofs.Ordered.{IsMember-inserted, compare_exact}
-use Rattle.crystal.specs.Bounds.{EntriesAtMost}
 use Rattle.crystal.specs.Carrying.{FoldsTo}
-use Rattle.crystal.proofs.ImageLemmas.{member_at}
-use Rattle.mag_ops.specs.Groups.{ListsGroup}
-use Rattle.mag_ops.specs.Candidates.{candidate, IsWanted, IsKeptAs, IsOnto, IsFromAtoms, IsKeptBy, IsFoundBelow}
-use Rattle.mag_ops.proofs.Numbered.{number_of}
+use Rattle.lattice_iso.specs.Isometries.{ListsIsometries}
+use Rattle.mag_ops.specs.Groups.{ListsGroup, IsWanted}
+use Rattle.mag_ops.specs.Candidates.{IsKeptAs, IsOnto, IsFromAtoms, IsKeptBy, IsFoundBelow}
 
 -- putting in an operation that keeps the crystal
 pub kept_added : (c : Structure) (op : Operation) (old new : List Operation) → Keeps c op.matrix op.translation (sign_factor op.sign) → new ≡ inserted compare_of op old →
@@ -72,52 +70,37 @@ folds_once n p q r f g = same_within n q r (difference g.cells f.cells) f.within
         (formulas.sum_of quoted (formulas.sum_of quoted x (formulas.multiple quoted (var 9) y)) (formulas.multiple quoted (var 9) (formulas.multiple quoted (con (negsuc 0)) u)))
         (formulas.sum_of quoted x (formulas.multiple quoted (var 9) (formulas.difference quoted y u))) refl
 
-same_at : {X : Type 0} (xs : List X) (i : ℕ) (x y : X) → slice_get xs i ≡ Some x → slice_get xs i ≡ Some y → x ≡ y
-same_at xs i x y e f = let k = sym e ∙ f in cc k
-
--- a kept operation carries the first atom onto this one
-onto_kept : (c : Structure) (time : Bool) (w : Matrix) (t : Triple) (i : ℕ) (first site : Site) (o : Operation) (s : Sign) → slice_get c.sites 0 ≡ Some first → slice_get c.sites i ≡ Some site → site.species ≡ first.species → FoldsTo c.n (difference site.position (image w first.position)) t → IsWanted time s →
-    IsKeptAs c w t s o → IsOnto c time w i o
-onto_kept c time w t i first site o s is_first is_site species f wanted h = record {
-  first = first;
-  is_first = is_first;
-  site = site;
-  is_site = is_site;
-  same_species = species;
+-- a kept operation carries the one atom onto the other
+onto_kept : (c : Structure) (time : Bool) (w : Matrix) (t : Triple) (from onto : Site) (o : Operation) (s : Sign) → FoldsTo c.n (difference onto.position (image w from.position)) t → IsWanted time s →
+    IsKeptAs c w t s o → IsOnto c time w from onto o
+onto_kept c time w t from onto o s f wanted h = record {
   same_matrix = h.same_matrix;
-  translation = subst (FoldsTo c.n (difference site.position (image w first.position))) (sym h.same_translation) f;
+  translation = subst (FoldsTo c.n (difference onto.position (image w from.position))) (sym h.same_translation) f;
   wanted = subst (IsWanted time) (sym h.same_sign) wanted;
   keeps = subst (λ (r : Triple). Keeps c w r (sign_factor o.sign)) (sym h.same_translation) (subst (λ (r : Sign). Keeps c w t (sign_factor r)) (sym h.same_sign) h.keeps);
 }
 
--- one that carries the first atom onto this one is kept with the translation part that does so
-kept_onto : (c : Structure) (time : Bool) (w : Matrix) (t : Triple) (i : ℕ) (first site : Site) (o : Operation) → slice_get c.sites 0 ≡ Some first → slice_get c.sites i ≡ Some site → FoldsTo c.n (difference site.position (image w first.position)) t →
-    IsOnto c time w i o → IsKeptAs c w t o.sign o
-kept_onto c time w t i first site o is_first is_site f k = record { same_matrix = k.same_matrix; same_translation = now; same_sign = refl; keeps = subst (λ (r : Triple). Keeps c w r (sign_factor o.sign)) now k.keeps }
+-- one that carries the one atom onto the other is kept with the translation part that does so
+kept_onto : (c : Structure) (time : Bool) (w : Matrix) (t : Triple) (from onto : Site) (o : Operation) → FoldsTo c.n (difference onto.position (image w from.position)) t →
+    IsOnto c time w from onto o → IsKeptAs c w t o.sign o
+kept_onto c time w t from onto o f k = record { same_matrix = k.same_matrix; same_translation = now; same_sign = refl; keeps = subst (λ (r : Triple). Keeps c w r (sign_factor o.sign)) now k.keeps }
   where
-    s : k.site ≡ site
-    s = same_at c.sites i k.site site k.is_site is_site
-
-    g : k.first ≡ first
-    g = same_at c.sites 0 k.first first k.is_first is_first
-
     now : o.translation ≡ t
-    now = folds_once c.n (difference site.position (image w first.position)) o.translation t
-        (subst (λ (a : Site). FoldsTo c.n (difference site.position (image w a.position)) o.translation) g (subst (λ (a : Site). FoldsTo c.n (difference a.position (image w k.first.position)) o.translation) s k.translation)) f
+    now = folds_once c.n (difference onto.position (image w from.position)) o.translation t k.translation f
 
--- the atom is of the first one's species: its translation part with either sign
-pub onto_more : (c : Structure) (w : Matrix) (t : Triple) (i : ℕ) (first site : Site) (o : Operation) (A B D : Type 0) → slice_get c.sites 0 ≡ Some first → slice_get c.sites i ≡ Some site → site.species ≡ first.species → FoldsTo c.n (difference site.position (image w first.position)) t →
-    B ↔ (IsKeptAs c w t Same o ⊎ D) → A ↔ (IsKeptAs c w t Reversed o ⊎ B) → A ↔ (IsOnto c true w i o ⊎ D)
-onto_more c w t i first site o A B D is_first is_site species f same reversed = ((λ a. from_reversed (reversed.0 a)), back)
+-- the translation part that carries the one atom onto the other with either sign
+pub onto_more : (c : Structure) (w : Matrix) (t : Triple) (from onto : Site) (o : Operation) (A B D : Type 0) → FoldsTo c.n (difference onto.position (image w from.position)) t →
+    B ↔ (IsKeptAs c w t Same o ⊎ D) → A ↔ (IsKeptAs c w t Reversed o ⊎ B) → A ↔ (IsOnto c true w from onto o ⊎ D)
+onto_more c w t from onto o A B D f same reversed = ((λ a. from_reversed (reversed.0 a)), back)
   where
-    this : (s : Sign) → IsWanted true s → IsKeptAs c w t s o → IsOnto c true w i o
-    this s = onto_kept c true w t i first site o s is_first is_site species f
+    this : (s : Sign) → IsWanted true s → IsKeptAs c w t s o → IsOnto c true w from onto o
+    this s = onto_kept c true w t from onto o s f
 
-    from_same : IsKeptAs c w t Same o ⊎ D → IsOnto c true w i o ⊎ D
+    from_same : IsKeptAs c w t Same o ⊎ D → IsOnto c true w from onto o ⊎ D
     from_same (inl h) = inl (this Same tt h)
     from_same (inr d) = inr d
 
-    from_reversed : IsKeptAs c w t Reversed o ⊎ B → IsOnto c true w i o ⊎ D
+    from_reversed : IsKeptAs c w t Reversed o ⊎ B → IsOnto c true w from onto o ⊎ D
     from_reversed (inl h) = inl (this Reversed refl h)
     from_reversed (inr b) = from_same (same.0 b)
 
@@ -125,73 +108,90 @@ onto_more c w t i first site o A B D is_first is_site species f same reversed = 
     by_sign Same k = reversed.1 (inr (same.1 (inl k)))
     by_sign Reversed k = reversed.1 (inl k)
 
-    back : IsOnto c true w i o ⊎ D → A
-    back (inl k) = by_sign o.sign (kept_onto c true w t i first site o is_first is_site f k)
+    back : IsOnto c true w from onto o ⊎ D → A
+    back (inl k) = by_sign o.sign (kept_onto c true w t from onto o f k)
     back (inr d) = reversed.1 (inr (same.1 (inr d)))
 
--- without time reversal: its translation part with the sign +1 alone
-pub onto_more_same : (c : Structure) (w : Matrix) (t : Triple) (i : ℕ) (first site : Site) (o : Operation) (A D : Type 0) → slice_get c.sites 0 ≡ Some first → slice_get c.sites i ≡ Some site → site.species ≡ first.species → FoldsTo c.n (difference site.position (image w first.position)) t →
-    A ↔ (IsKeptAs c w t Same o ⊎ D) → A ↔ (IsOnto c false w i o ⊎ D)
-onto_more_same c w t i first site o A D is_first is_site species f same = ((λ a. forth (same.0 a)), back)
+-- without time reversal: that with the sign +1 alone
+pub onto_more_same : (c : Structure) (w : Matrix) (t : Triple) (from onto : Site) (o : Operation) (A D : Type 0) → FoldsTo c.n (difference onto.position (image w from.position)) t →
+    A ↔ (IsKeptAs c w t Same o ⊎ D) → A ↔ (IsOnto c false w from onto o ⊎ D)
+onto_more_same c w t from onto o A D f same = ((λ a. forth (same.0 a)), back)
   where
-    forth : IsKeptAs c w t Same o ⊎ D → IsOnto c false w i o ⊎ D
-    forth (inl h) = inl (onto_kept c false w t i first site o Same is_first is_site species f tt h)
+    forth : IsKeptAs c w t Same o ⊎ D → IsOnto c false w from onto o ⊎ D
+    forth (inl h) = inl (onto_kept c false w t from onto o Same f tt h)
     forth (inr d) = inr d
 
     by_sign : (s : Sign) → IsWanted false s → IsKeptAs c w t s o → A
     by_sign Same wanted k = same.1 (inl k)
     by_sign Reversed wanted k = absurd (cc wanted)
 
-    back : IsOnto c false w i o ⊎ D → A
-    back (inl k) = by_sign o.sign k.wanted (kept_onto c false w t i first site o is_first is_site f k)
+    back : IsOnto c false w from onto o ⊎ D → A
+    back (inl k) = by_sign o.sign k.wanted (kept_onto c false w t from onto o f k)
     back (inr d) = same.1 (inr d)
 
--- the atom is of another species
-pub onto_none : (c : Structure) (time : Bool) (w : Matrix) (i : ℕ) (first site : Site) (o : Operation) (D : Type 0) → slice_get c.sites 0 ≡ Some first → slice_get c.sites i ≡ Some site → (site.species ≡ first.species → ⊥) → D ↔ (IsOnto c time w i o ⊎ D)
-onto_none c time w i first site o D is_first is_site other = ((λ d. inr d), back)
-  where
-    back : IsOnto c time w i o ⊎ D → D
-    back (inl k) =
-        let s = same_at c.sites i k.site site k.is_site is_site in
-        let g = same_at c.sites 0 k.first first k.is_first is_first in
-        absurd (other (ap (λ (a : Site). a.species) (sym s) ∙ k.same_species ∙ ap (λ (a : Site). a.species) g))
-    back (inr d) = d
+-- one atom more
+from_more : (c : Structure) (time : Bool) (w : Matrix) (from : Site) (i : ℕ) (o : Operation) → IsFromAtoms c time w from i o → IsFromAtoms c time w from (i + 1) o
+from_more c time w from i o k = record { number = k.number; below = omega (arith, k.below); site = k.site; is_site = k.is_site; same_species = k.same_species; onto = k.onto }
 
--- the next atom
-pub atoms_more : (c : Structure) (time : Bool) (w : Matrix) (i : ℕ) (o : Operation) (A D Old : Type 0) → D ↔ (IsFromAtoms c time w i o ⊎ Old) → A ↔ (IsOnto c time w i o ⊎ D) → A ↔ (IsFromAtoms c time w (i + 1) o ⊎ Old)
-atoms_more c time w i o A D Old old more = ((λ a. forth (more.0 a)), back)
+same_at : {X : Type 0} (xs : List X) (i : ℕ) (x y : X) → slice_get xs i ≡ Some x → slice_get xs i ≡ Some y → x ≡ y
+same_at xs i x y e f = let k = sym e ∙ f in cc k
+
+-- the next atom, of the species of the first
+pub atoms_more : (c : Structure) (time : Bool) (w : Matrix) (from : Site) (i : ℕ) (onto : Site) (o : Operation) (A D Old : Type 0) → slice_get c.sites i ≡ Some onto → onto.species ≡ from.species → D ↔ (IsFromAtoms c time w from i o ⊎ Old) → A ↔ (IsOnto c time w from onto o ⊎ D) → A ↔ (IsFromAtoms c time w from (i + 1) o ⊎ Old)
+atoms_more c time w from i onto o A D Old is_site species old more = ((λ a. forth (more.0 a)), back)
   where
-    earlier : IsFromAtoms c time w i o ⊎ Old → IsFromAtoms c time w (i + 1) o ⊎ Old
-    earlier (inl k) = inl (record { number = k.number; below = omega (arith, k.below); onto = k.onto })
+    earlier : IsFromAtoms c time w from i o ⊎ Old → IsFromAtoms c time w from (i + 1) o ⊎ Old
+    earlier (inl k) = inl (from_more c time w from i o k)
     earlier (inr d) = inr d
 
-    forth : IsOnto c time w i o ⊎ D → IsFromAtoms c time w (i + 1) o ⊎ Old
-    forth (inl k) = inl (record { number = i; below = omega arith; onto = k })
+    forth : IsOnto c time w from onto o ⊎ D → IsFromAtoms c time w from (i + 1) o ⊎ Old
+    forth (inl k) = inl (record { number = i; below = omega arith; site = onto; is_site = is_site; same_species = species; onto = k })
     forth (inr d) = earlier (old.0 d)
 
-    by_order : (k : IsFromAtoms c time w (i + 1) o) → (k.number < i) ⊎ (k.number ≡ i) → A
-    by_order k (inl p) = more.1 (inr (old.1 (inl (record { number = k.number; below = p; onto = k.onto }))))
-    by_order k (inr e) = more.1 (inl (subst (λ (j : ℕ). IsOnto c time w j o) e k.onto))
+    by_order : (k : IsFromAtoms c time w from (i + 1) o) → (k.number < i) ⊎ (k.number ≡ i) → A
+    by_order k (inl p) = more.1 (inr (old.1 (inl (record { number = k.number; below = p; site = k.site; is_site = k.is_site; same_species = k.same_species; onto = k.onto }))))
+    by_order k (inr e) =
+        let here = same_at c.sites i k.site onto (subst (λ (j : ℕ). slice_get c.sites j ≡ Some k.site) e k.is_site) is_site in
+        more.1 (inl (subst (λ (s : Site). IsOnto c time w from s o) here k.onto))
 
-    back : IsFromAtoms c time w (i + 1) o ⊎ Old → A
+    back : IsFromAtoms c time w from (i + 1) o ⊎ Old → A
     back (inl k) = by_order k (below_or k.number i k.below)
     back (inr d) = more.1 (inr (old.1 (inr d)))
 
-pub atoms_none : (c : Structure) (time : Bool) (w : Matrix) (o : Operation) (Old : Type 0) → Old ↔ (IsFromAtoms c time w 0 o ⊎ Old)
-atoms_none c time w o Old = ((λ d. inr d), back)
+-- the next atom, of another species
+pub atoms_same : (c : Structure) (time : Bool) (w : Matrix) (from : Site) (i : ℕ) (onto : Site) (o : Operation) (D Old : Type 0) → slice_get c.sites i ≡ Some onto → (onto.species ≡ from.species → ⊥) → D ↔ (IsFromAtoms c time w from i o ⊎ Old) → D ↔ (IsFromAtoms c time w from (i + 1) o ⊎ Old)
+atoms_same c time w from i onto o D Old is_site other old = ((λ d. forth (old.0 d)), back)
   where
-    back : IsFromAtoms c time w 0 o ⊎ Old → Old
+    forth : IsFromAtoms c time w from i o ⊎ Old → IsFromAtoms c time w from (i + 1) o ⊎ Old
+    forth (inl k) = inl (from_more c time w from i o k)
+    forth (inr d) = inr d
+
+    by_order : (k : IsFromAtoms c time w from (i + 1) o) → (k.number < i) ⊎ (k.number ≡ i) → D
+    by_order k (inl p) = old.1 (inl (record { number = k.number; below = p; site = k.site; is_site = k.is_site; same_species = k.same_species; onto = k.onto }))
+    by_order k (inr e) =
+        let here = same_at c.sites i k.site onto (subst (λ (j : ℕ). slice_get c.sites j ≡ Some k.site) e k.is_site) is_site in
+        absurd (other (ap (λ (s : Site). s.species) (sym here) ∙ k.same_species))
+
+    back : IsFromAtoms c time w from (i + 1) o ⊎ Old → D
+    back (inl k) = by_order k (below_or k.number i k.below)
+    back (inr d) = old.1 (inr d)
+
+-- no atom so far
+pub atoms_none : (c : Structure) (time : Bool) (w : Matrix) (from : Site) (o : Operation) (Old : Type 0) → Old ↔ (IsFromAtoms c time w from 0 o ⊎ Old)
+atoms_none c time w from o Old = ((λ d. inr d), back)
+  where
+    back : IsFromAtoms c time w from 0 o ⊎ Old → Old
     back (inl k) = absurd (omega (arith, k.below))
     back (inr d) = d
 
-record IsAt (xs : List Site) (x : Site) : Type 0 where
+record IsAt {X : Type 0} (xs : List X) (x : X) : Type 0 where
   number : ℕ
   below : number < length xs
   at : slice_get xs number ≡ Some x
 
-at_of_member : (xs : List Site) (x : Site) → IsMember x xs → IsAt xs x
+at_of_member : {X : Type 0} (xs : List X) (x : X) → IsMember x xs → IsAt xs x
 at_of_member [] x m = absurd m
-at_of_member (y ∷ ys) x (inl e) = record { number = 0; below = omega arith; at = ap (λ (z : Site). Some z) (sym e) }
+at_of_member {X} (y ∷ ys) x (inl e) = record { number = 0; below = omega arith; at = ap (λ (z : X). Some z) (sym e) }
 at_of_member (y ∷ ys) x (inr m) = let k = at_of_member ys x m in record { number = suc k.number; below = omega (arith, k.below); at = k.at }
 
 -- the translation part from where the first atom goes
@@ -209,29 +209,27 @@ carried_translation i t q d n e =
     (formulas.sum_of quoted y (formulas.multiple quoted (var 9) (formulas.multiple quoted (con (negsuc 0)) u))) refl
 
 -- all atoms are seen: exactly the symmetry operations of this matrix
-pub atoms_all : (c : Structure) (time : Bool) (w : Matrix) (first : Site) (o : Operation) (A Old : Type 0) → slice_get c.sites 0 ≡ Some first → A ↔ (IsFromAtoms c time w (length c.sites) o ⊎ Old) → A ↔ (IsKeptBy c time w o ⊎ Old)
-atoms_all c time w first o A Old is_first found = ((λ a. forth (found.0 a)), (λ h. found.1 (back h)))
+pub atoms_all : (c : Structure) (time : Bool) (w : Matrix) (from : Site) (o : Operation) (A Old : Type 0) → IsMember from c.sites → A ↔ (IsFromAtoms c time w from (length c.sites) o ⊎ Old) → A ↔ (IsKeptBy c time w o ⊎ Old)
+atoms_all c time w from o A Old of_cell found = ((λ a. forth (found.0 a)), (λ h. found.1 (back h)))
   where
-    forth : IsFromAtoms c time w (length c.sites) o ⊎ Old → IsKeptBy c time w o ⊎ Old
+    forth : IsFromAtoms c time w from (length c.sites) o ⊎ Old → IsKeptBy c time w o ⊎ Old
     forth (inl f) = let k = f.onto in inl (record { same_matrix = k.same_matrix; wanted = k.wanted; symmetry = record { translation = k.translation.within; keeps = subst (λ (m : Matrix). Keeps c m o.translation (sign_factor o.sign)) (sym k.same_matrix) k.keeps } })
     forth (inr d) = inr d
 
-    back : IsKeptBy c time w o ⊎ Old → IsFromAtoms c time w (length c.sites) o ⊎ Old
+    back : IsKeptBy c time w o ⊎ Old → IsFromAtoms c time w from (length c.sites) o ⊎ Old
     back (inl h) =
         let keeps = subst (λ (m : Matrix). Keeps c m o.translation (sign_factor o.sign)) h.same_matrix h.symmetry.keeps in
-        let image_of = images_of_keeps c w o.translation (sign_factor o.sign) keeps first (member_at c.sites 0 first is_first) in
+        let image_of = images_of_keeps c w o.translation (sign_factor o.sign) keeps from of_cell in
         let k = at_of_member c.sites image_of.site image_of.of_cell in
         inl (record {
           number = k.number;
           below = k.below;
+          site = image_of.site;
+          is_site = k.at;
+          same_species = image_of.same_species;
           onto = record {
-            first = first;
-            is_first = is_first;
-            site = image_of.site;
-            is_site = k.at;
-            same_species = image_of.same_species;
             same_matrix = h.same_matrix;
-            translation = record { within = h.symmetry.translation; cells = multiple (negsuc 0) image_of.cells; same = carried_translation (image w first.position) o.translation image_of.site.position image_of.cells (pos c.n) image_of.same_position };
+            translation = record { within = h.symmetry.translation; cells = multiple (negsuc 0) image_of.cells; same = carried_translation (image w from.position) o.translation image_of.site.position image_of.cells (pos c.n) image_of.same_position };
             wanted = h.wanted;
             keeps = keeps;
           };
@@ -239,36 +237,29 @@ atoms_all c time w first o A Old is_first found = ((λ a. forth (found.0 a)), (�
     back (inr d) = inr d
 
 -- ---- one matrix after another
-pub found_more : (c : Structure) (time : Bool) (w : Matrix) (k : ℕ) (o : Operation) (A D : Type 0) → w ≡ candidate k → D ↔ IsFoundBelow c time k o → A ↔ (IsKeptBy c time w o ⊎ D) → A ↔ IsFoundBelow c time (k + 1) o
-found_more c time w k o A D is old more = ((λ a. forth (more.0 a)), (λ f. by_order f (below_or f.number k f.below)))
+pub found_more : (c : Structure) (time : Bool) (ws : List Matrix) (w : Matrix) (k : ℕ) (o : Operation) (A D : Type 0) → slice_get ws k ≡ Some w → D ↔ IsFoundBelow c time ws k o → A ↔ (IsKeptBy c time w o ⊎ D) → A ↔ IsFoundBelow c time ws (k + 1) o
+found_more c time ws w k o A D is old more = ((λ a. forth (more.0 a)), (λ f. by_order f (below_or f.number k f.below)))
   where
-    forth : IsKeptBy c time w o ⊎ D → IsFoundBelow c time (k + 1) o
-    forth (inl h) = record { number = k; below = omega arith; same_matrix = h.same_matrix ∙ is; wanted = h.wanted; symmetry = h.symmetry }
-    forth (inr d) = let f = old.0 d in record { number = f.number; below = omega (arith, f.below); same_matrix = f.same_matrix; wanted = f.wanted; symmetry = f.symmetry }
+    forth : IsKeptBy c time w o ⊎ D → IsFoundBelow c time ws (k + 1) o
+    forth (inl h) = record { number = k; below = omega arith; is_matrix = is ∙ ap (λ (m : Matrix). Some m) (sym h.same_matrix); wanted = h.wanted; symmetry = h.symmetry }
+    forth (inr d) = let f = old.0 d in record { number = f.number; below = omega (arith, f.below); is_matrix = f.is_matrix; wanted = f.wanted; symmetry = f.symmetry }
 
-    by_order : (f : IsFoundBelow c time (k + 1) o) → (f.number < k) ⊎ (f.number ≡ k) → A
-    by_order f (inl p) = more.1 (inr (old.1 (record { number = f.number; below = p; same_matrix = f.same_matrix; wanted = f.wanted; symmetry = f.symmetry })))
-    by_order f (inr e) = more.1 (inl (record { same_matrix = f.same_matrix ∙ ap candidate e ∙ sym is; wanted = f.wanted; symmetry = f.symmetry }))
+    by_order : (f : IsFoundBelow c time ws (k + 1) o) → (f.number < k) ⊎ (f.number ≡ k) → A
+    by_order f (inl p) = more.1 (inr (old.1 (record { number = f.number; below = p; is_matrix = f.is_matrix; wanted = f.wanted; symmetry = f.symmetry })))
+    by_order f (inr e) = more.1 (inl (record { same_matrix = same_at ws k o.matrix w (subst (λ (j : ℕ). slice_get ws j ≡ Some o.matrix) e f.is_matrix) is; wanted = f.wanted; symmetry = f.symmetry }))
 
--- a matrix that is no isometry has no symmetry operation
-pub not_kept : (c : Structure) (time : Bool) (w : Matrix) (o : Operation) (D : Type 0) → (KeepsMetric c.metric w → ⊥) → D ↔ (IsKeptBy c time w o ⊎ D)
-not_kept c time w o D never = ((λ d. inr d), back)
-  where
-    back : IsKeptBy c time w o ⊎ D → D
-    back (inl h) = absurd (never (subst (KeepsMetric c.metric) h.same_matrix h.symmetry.keeps.metric))
-    back (inr d) = d
-
-pub found_none : (c : Structure) (time : Bool) (o : Operation) → IsMember o [] ↔ IsFoundBelow c time 0 o
-found_none c time o = ((λ m. absurd m), (λ f. omega (arith, f.below)))
+-- no matrix so far
+pub found_none : (c : Structure) (time : Bool) (ws : List Matrix) (o : Operation) → IsMember o [] ↔ IsFoundBelow c time ws 0 o
+found_none c time ws o = ((λ m. absurd m), (λ f. omega (arith, f.below)))
 
 -- all matrices are seen
-pub found_all : (c : Structure) (time : Bool) (os : List Operation) → ((w : Matrix) → KeepsMetric c.metric w → EntriesAtMost 1 w) → IsIncreasing compare_of os → ((o : Operation) → IsMember o os ↔ IsFoundBelow c time 19683 o) → ListsGroup c time os
-found_all c time os small increasing found = by_time time complete found
+pub found_all : (c : Structure) (time : Bool) (ws : List Matrix) (os : List Operation) → ListsIsometries c.metric ws → IsIncreasing compare_of os → ((o : Operation) → IsMember o os ↔ IsFoundBelow c time ws (length ws) o) → ListsGroup c time os
+found_all c time ws os isometries increasing found = by_time time complete found
   where
-    complete : (o : Operation) → IsWanted time o.sign → IsSymmetryOperation c o → IsFoundBelow c time 19683 o
+    complete : (o : Operation) → IsWanted time o.sign → IsSymmetryOperation c o → IsFoundBelow c time ws (length ws) o
     complete o wanted s =
-        let k = number_of o.matrix (small o.matrix s.keeps.metric) in
-        record { number = k.0; below = k.1; same_matrix = sym k.2; wanted = wanted; symmetry = s }
+        let k = at_of_member ws o.matrix ((isometries.exact o.matrix).1 s.keeps.metric) in
+        record { number = k.number; below = k.below; is_matrix = k.at; wanted = wanted; symmetry = s }
 
     either : (s : Sign) → IsWanted true s
     either Same = tt
@@ -278,7 +269,7 @@ found_all c time os small increasing found = by_time time complete found
     only_same Same wanted = refl
     only_same Reversed wanted = absurd (cc wanted)
 
-    by_time : (t : Bool) → ((o : Operation) → IsWanted t o.sign → IsSymmetryOperation c o → IsFoundBelow c t 19683 o) → ((o : Operation) → IsMember o os ↔ IsFoundBelow c t 19683 o) → ListsGroup c t os
+    by_time : (t : Bool) → ((o : Operation) → IsWanted t o.sign → IsSymmetryOperation c o → IsFoundBelow c t ws (length ws) o) → ((o : Operation) → IsMember o os ↔ IsFoundBelow c t ws (length ws) o) → ListsGroup c t os
     by_time true all f = record {
       increasing = increasing;
       exact = λ o. ((λ m. ((f o).0 m).symmetry), (λ s. (f o).1 (all o (either o.sign) s)));

@@ -1,3 +1,5 @@
-pub mod RightAngledMetrics
-pub mod Numbered
 pub mod Found
+pub mod Counts
+pub mod NothingMissed
+pub mod Sizes
+pub mod Carrying

@@ -1,3 +1,3 @@
-pub mod Candidates
 pub mod Groups
-pub mod RightAngled
+pub mod Candidates
+pub mod Carried

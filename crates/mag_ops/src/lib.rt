@@ -1,12 +1,18 @@
-//! All symmetry operations of a crystal, each once and in order.
+//! All symmetry operations of a crystal, with or without time reversal, each once and in order: those of its primitive
+//! cell, and from these the ones in the cell that the primitive cell was made of.
 //!
-//! For now the metric tensor of the cell is right-angled: the matrices that are tried have entries -1, 0 and 1, which
-//! every isometry of such a metric has.
+//! Matrices act from the left on columns of coordinates; translation parts are in units of 1/n, each coordinate from 0 to
+//! n - 1. Q takes coordinates in the cell to those in the primitive cell. The definitions are those of crystal_spec and
+//! basis_spec.
 #![tactic(auto)]
 
-mod candidate;
-mod group;
+mod carried;
+mod full;
+mod rarest;
 #[cfg(test)]
 mod tests;
+#[cfg(test)]
+mod tests_carried;
 
-pub use group::{cell_group, is_right_angled};
+pub use carried::in_cell;
+pub use full::full_group;

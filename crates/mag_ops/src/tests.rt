@@ -1,19 +1,30 @@
-ghost use Rattle.std.specs.Prelude.{◌≡◌, ◌*◌, ◌^◌, ◌<◌, IfOk, [], ◌∷◌};
+// The numbers of operations of a few crystals, counted by hand. Each isometry of the lattice that carries the axis of the
+// moments to itself comes with one sign of time, or with one sign onto each of two opposite moments; where there is no
+// moment every isometry comes with both.
+
+ghost use Rattle.std.specs.Prelude.{◌≡◌, ◌*◌, ◌^◌, ◌<◌, IfOk, OnOk};
 ghost use Rattle.ring.specs.Size.{AtMost};
 ghost use Rattle.crystal_spec.specs.Crystals.{IsPositive};
 ghost use Rattle.crystal.specs.Views.{metric_of};
 ghost use Rattle.crystal.specs.Bounds.{EntriesAtMost, CoordinatesAtMost};
-ghost use Rattle.mag_ops.specs.RightAngled.{IsRightAngled};
+ghost use Rattle.prim_cell.specs.Sizes.{HasSizesOfRead};
 
-use crate::cell_group;
-use crystal::{Atom, Cell, Metric, Name, Sign, Steps};
+use crate::full_group;
+use crystal::{Atom, Cell, Metric, Name, Places, Steps};
 use exact_num::Int;
-use matrix3::{Mat3, Vec3};
-use op_group::{Op, OpList};
-use std::alloc::{AllocError, Global};
+use matrix3::Vec3;
+use prim_cell::{Primitive, primitive};
+use std::alloc::Global;
 use std::marker::Brand;
 use std::sync::ledger::{Blank, Ledger};
 use std::test::Fail;
+
+#[derive(Clone, Copy)]
+enum Axes {
+    Cubic,
+    Hexagonal,
+    Triclinic,
+}
 
 fn whole(value: i8) -> Int
     ensures value { result ≡ value }
@@ -22,110 +33,152 @@ fn whole(value: i8) -> Int
     Int::new(value as i128).unwrap()
 }
 
-/// Axes at right angles, of lengths 1, 2 and 3.
-fn axes() -> Metric
+/// Axes of length 1 at right angles.
+fn cubic() -> Metric
     ensures positive { IsPositive (metric_of result) }
-    ensures entries { EntriesAtMost (10 ^ 16) (metric_of result) }
-    ensures right_angled { IsRightAngled (metric_of result) }
+    ensures entries { EntriesAtMost 128 (metric_of result) }
 {
-    let zero = whole(0);
     Metric {
         aa: whole(1),
-        bb: whole(4),
-        cc: whole(9),
-        bc: zero,
-        ac: zero,
-        ab: zero,
+        bb: whole(1),
+        cc: whole(1),
+        bc: whole(0),
+        ac: whole(0),
+        ab: whole(0),
     }
 }
 
-/// An atom at the origin with moment 1 along c.
-fn atom() -> Atom
+/// Two axes of one length at 120 degrees, and one across them.
+fn hexagonal() -> Metric
+    ensures positive { IsPositive (metric_of result) }
+    ensures entries { EntriesAtMost 128 (metric_of result) }
+{
+    Metric {
+        aa: whole(2),
+        bb: whole(2),
+        cc: whole(5),
+        bc: whole(0),
+        ac: whole(0),
+        ab: whole(-1),
+    }
+}
+
+/// Three axes of three lengths at acute angles.
+fn triclinic() -> Metric
+    ensures positive { IsPositive (metric_of result) }
+    ensures entries { EntriesAtMost 128 (metric_of result) }
+{
+    Metric {
+        aa: whole(4),
+        bb: whole(5),
+        cc: whole(6),
+        bc: whole(1),
+        ac: whole(1),
+        ab: whole(1),
+    }
+}
+
+fn metric(axes: Axes) -> Metric
+    ensures positive { IsPositive (metric_of result) }
+    ensures entries { EntriesAtMost 128 (metric_of result) }
+{
+    match axes {
+        Axes::Cubic => cubic(),
+        Axes::Hexagonal => hexagonal(),
+        Axes::Triclinic => triclinic(),
+    }
+}
+
+/// An atom of the first species.
+fn atom(place: [u32; 3], moment: [i8; 3]) -> Atom
     ensures species { result.species ≡ 0 }
-    ensures place { result.place ≡ 0 ∷ 0 ∷ 0 ∷ [] }
+    ensures place { result.place ≡ place }
     ensures moment { CoordinatesAtMost (2 * 10 ^ 27) result.moment }
+    ensures small { CoordinatesAtMost (10 ^ 9) result.moment }
 {
     let moment = Vec3 {
-        x: whole(0),
-        y: whole(0),
-        z: whole(1),
+        x: whole(moment[0]),
+        y: whole(moment[1]),
+        z: whole(moment[2]),
     };
     Atom {
         species: 0,
-        place: [0, 0, 0],
+        place,
         moment,
     }
 }
 
-/// One atom in an orthorhombic cell, with its moment along c.
-fn ferromagnet(alloc: Global) -> Result<Cell, Fail>
-    ensures { IfOk result (λ cell. IsRightAngled cell.metric) }
+/// A cell with n = 2 and an atom at the origin.
+fn one_atom(alloc: Global, axes: Axes, moment: [i8; 3]) -> Result<Cell, Fail>
+    ensures { IfOk result (λ cell. HasSizesOfRead cell) }
 {
-    let manganese = Name::new(b"Mn").ok_or("Mn is no name")?;
-    Ok(Cell::build(alloc, whole(1), axes(), 1, 1, manganese, atom())?)
+    let name = Name::new(b"Mn").ok_or("Mn is no name")?;
+    let first = atom([0, 0, 0], moment);
+    let cell = Cell::build(alloc, whole(1), metric(axes), 2, 1, name, first)?;
+    Ok(cell)
 }
 
-/// The operations of the cell, over a new counter of steps.
+/// Adds an atom of its species in the middle of the cell.
+fn put_in_the_middle(alloc: Global, cell: &mut Cell, moment: [i8; 3]) -> Result<(), Fail>
+    requires sizes { HasSizesOfRead cell.old }
+    ensures { OnOk result (HasSizesOfRead cell.new) }
+{
+    if cell.n() != 2 || cell.names() == 0 || cell.count() >= 512 {
+        return Err(Fail::new("no atom can be there"));
+    }
+    let places = Places::new(alloc, cell)?;
+    if places.occupant([1, 1, 1]).is_some() {
+        return Err(Fail::new("an atom is there"));
+    }
+    cell.add(atom([1, 1, 1], moment))?;
+    Ok(())
+}
+
+/// The primitive cell of a crystal with an atom of this moment at the origin, and maybe another in the middle.
+fn crystal(
+    alloc: Global,
+    axes: Axes,
+    moment: [i8; 3],
+    middle: Option<[i8; 3]>,
+) -> Result<Primitive, Fail> {
+    let mut cell = one_atom(alloc, axes, moment)?;
+    if let Some(moment) = middle {
+        put_in_the_middle(alloc, &mut cell, moment)?;
+    }
+    Ok(primitive(alloc, &cell)?)
+}
+
+/// How many operations are listed, over a new counter of steps.
 fn listed<L: Ledger>(
     alloc: Global,
     blank: Blank,
-    cell: &Cell,
+    prim: &Primitive,
     time: bool,
-) -> Result<OpList, AllocError>
-    requires right_angled { IsRightAngled cell.now.metric }
+) -> Result<usize, Fail>
     requires name { blank.name ≡ L.name }
     requires parts { blank.parts ≡ L.parts }
     requires some { 0 < L.parts }
 {
     let mut steps = Steps::<L>::new(blank);
-    cell_group(alloc, cell, time, &mut steps)
-}
-
-/// The operation of a diagonal matrix that carries the origin to itself.
-fn operation(diagonal: [i8; 3], sign: Sign) -> Op {
-    let zero = whole(0);
-    let w = Mat3 {
-        a11: whole(diagonal[0]),
-        a12: zero,
-        a13: zero,
-        a21: zero,
-        a22: whole(diagonal[1]),
-        a23: zero,
-        a31: zero,
-        a32: zero,
-        a33: whole(diagonal[2]),
-    };
-    Op {
-        w,
-        shift: [0, 0, 0],
-        sign,
-    }
+    Ok(full_group(alloc, prim, time, &mut steps)?.count())
 }
 
 #[test]
-fn a_moment_along_c_has_eight_operations_and_four_without_time_reversal(
-    rt: HostRuntime,
-) -> Result<(), Fail> {
-    let cell = ferromagnet(rt.alloc())?;
-    let all = [
-        operation([-1, -1, -1], Sign::Same),
-        operation([-1, -1, 1], Sign::Same),
-        operation([-1, 1, -1], Sign::Reversed),
-        operation([-1, 1, 1], Sign::Reversed),
-        operation([1, -1, -1], Sign::Reversed),
-        operation([1, -1, 1], Sign::Reversed),
-        operation([1, 1, -1], Sign::Same),
-        operation([1, 1, 1], Sign::Same),
+fn crystals_have_the_operations_of_their_group(rt: HostRuntime) -> Result<(), Fail> {
+    let alloc = rt.alloc();
+    let crystals = [
+        (Axes::Cubic, [0, 0, 1], None, 16, 8),
+        (Axes::Cubic, [0, 0, 1], Some([0, 0, -1]), 32, 16),
+        (Axes::Cubic, [0, 0, 0], None, 96, 48),
+        (Axes::Hexagonal, [0, 0, 0], None, 48, 24),
+        (Axes::Triclinic, [1, 2, 3], None, 2, 2),
     ];
-    let same = [
-        operation([-1, -1, -1], Sign::Same),
-        operation([-1, -1, 1], Sign::Same),
-        operation([1, 1, -1], Sign::Same),
-        operation([1, 1, 1], Sign::Same),
-    ];
-    for (time, expected) in [(true, all.as_slice()), (false, same.as_slice())] {
-        let list = listed::<Brand>(rt.alloc(), Blank::new(1), &cell, time)?;
-        assert!(rt; list.ops() == expected);
+    for (axes, moment, middle, all, same) in crystals {
+        let prim = crystal(alloc, axes, moment, middle)?;
+        for (time, expected) in [(true, all), (false, same)] {
+            let count = listed::<Brand>(alloc, Blank::new(1), &prim, time)?;
+            assert_eq!(rt; count, expected);
+        }
     }
     Ok(())
 }

@@ -6,11 +6,10 @@ use Rattle.std.specs.declared.result.Result.TheVariants.{Ok, Err}
 use Rattle.std.specs.Io.KnownBytes.{Consumes, IsAtEnd}
 use Rattle.cell_text.specs.Rules.{cell_fault}
 use Rattle.cell_text.specs.CellFile.{Spells}
-use Rattle.magsym.specs.declared.command.Command.{Command}
 use Rattle.magsym.specs.declared.status.Status.{Status}
-use Rattle.magsym.specs.declared.status.Status.TheVariants.{Done, Usage, CellTooLong, CellRefused, NotRightAngled, ReadFault, WriteFault, Memory}
+use Rattle.magsym.specs.declared.status.Status.TheVariants.{Done, Usage, CellTooLong, CellRefused, ReadFault, WriteFault, Memory}
 use Rattle.magsym.specs.Commands.{command}
-use Rattle.magsym.specs.Outcomes.{Streams, Outcome, Accepts}
+use Rattle.magsym.specs.Outcomes.{Streams, Outcome}
 use Rattle.magsym.specs.Completeness.{IsAnswerable, IsDoneOrMemory}
 
 -- what was read to the end is all of a known text
@@ -41,12 +40,6 @@ complete_of_outcome ws s (CellRefused line fault) o a =
     let same = read_is_text s.left s.left_after a.text o.1.text a.is_input o.1.read.taken o.1.read.none_left in
     let none : cell_fault o.1.text ≡ None = subst (λ (t : List ℕ). cell_fault t ≡ None) same a.spelled.faultless in
     let some : cell_fault o.1.text ≡ Some (line, fault) = o.1.first in absurd cc
-complete_of_outcome ws s NotRightAngled o a =
-    let same = read_is_text s.left s.left_after a.text o.text a.is_input o.read.taken o.read.none_left in
-    let asked : command ws ≡ Ok a.asked.request = a.asked.asked in
-    let here : command ws ≡ Ok o.request = o.asked in
-    let request : a.asked.request ≡ o.request = cc in
-    absurd (o.oblique (subst (λ (r : Command). Accepts r o.cell) request (a.accepted o.cell (subst (λ (t : List ℕ). Spells t o.cell) (sym same) o.spelled))))
 complete_of_outcome ws s CellTooLong o a =
     let within = taken_within s.left s.left_after a.text o.1.taken a.is_input o.1.consumed in
     absurd (omega (arith, within, o.1.count, a.short))

@@ -2,4 +2,6 @@ mod Complete
 mod TellingLemmas
 pub mod CountLemmas
 pub mod OptionLemmas
+mod OptionOrder
 pub mod SpelledSizes
+pub mod Listed

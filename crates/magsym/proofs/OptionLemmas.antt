@@ -18,7 +18,7 @@ abbrev after_word : List (List ℕ) → Result Options UsageFault → Result Com
 after_word later (Ok read) = options read later
 after_word later (Err fault) = Err fault
 
-step : (o read : Options) (word : List ℕ) (later : List (List ℕ)) → with_word o word ≡ Ok read → options o (word ∷ later) ≡ options read later
+pub step : (o read : Options) (word : List ℕ) (later : List (List ℕ)) → with_word o word ≡ Ok read → options o (word ∷ later) ≡ options read later
 step o read word later e = ap (after_word later) e
 
 stop : (o : Options) (word : List ℕ) (later : List (List ℕ)) (fault : UsageFault) → with_word o word ≡ Err fault → options o (word ∷ later) ≡ Err fault

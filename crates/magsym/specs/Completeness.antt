@@ -1,16 +1,16 @@
 -- When a run has to write the whole report.
---   IsAnswerable ws s      the words ask for a command, the input spells cells alone that it accepts, and no device fails
+--   IsAnswerable ws s      the words ask for a command, the input spells a cell, and no device fails
 --   IsDoneOrMemory status  the whole report is written, or memory was wanting
 use Rattle.std.specs.Prelude.{◌≡◌, ◌≤◌, ℕ, List, length, Some}
 use Rattle.io_edge.specs.Causes.{Rose}
 use Rattle.crystal_spec.specs.Crystals.{Structure}
 use Rattle.cell_text.specs.CellFile.{Spells}
 use Rattle.magsym.specs.declared.status.Status.{Status}
-use Rattle.magsym.specs.declared.status.Status.TheVariants.{Done, Usage, CellTooLong, CellRefused, NotRightAngled, ReadFault, WriteFault, Memory}
-use Rattle.magsym.specs.Outcomes.{Streams, IsAsked, Accepts}
+use Rattle.magsym.specs.declared.status.Status.TheVariants.{Done, Usage, CellTooLong, CellRefused, ReadFault, WriteFault, Memory}
+use Rattle.magsym.specs.Outcomes.{Streams, IsAsked}
 
--- The words ask for a command; the input tells its bytes, which are at most 262,144 and spell a cell; each cell that they
--- spell is one that the command accepts, so right-angled for `symmetry`; and neither the input nor the output failed.
+-- The words ask for a command; the input tells its bytes, which are at most 262,144 and spell a cell; and neither the input
+-- nor the output failed.
 pub record IsAnswerable (ws : List (List ℕ)) (s : Streams) : Type 0 where
   pub asked : IsAsked ws
   pub text : List ℕ
@@ -18,7 +18,6 @@ pub record IsAnswerable (ws : List (List ℕ)) (s : Streams) : Type 0 where
   pub short : length text ≤ 262144
   pub cell : Structure
   pub spelled : Spells text cell
-  pub accepted : (c : Structure) → Spells text c → Accepts asked.request c
   pub input_works : Rose s.in_faults s.in_faults_after → ⊥
   pub output_works : Rose s.out_faults s.out_faults_after → ⊥
 
@@ -29,6 +28,5 @@ IsDoneOrMemory Memory = Unit {0}
 IsDoneOrMemory (Usage fault) = ⊥
 IsDoneOrMemory (WriteFault written kept) = ⊥
 IsDoneOrMemory (CellRefused line fault) = ⊥
-IsDoneOrMemory NotRightAngled = ⊥
 IsDoneOrMemory CellTooLong = ⊥
 IsDoneOrMemory ReadFault = ⊥

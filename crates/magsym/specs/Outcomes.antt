@@ -4,7 +4,6 @@
 --   SymmetryReport c time skip most bytes   the lines of a page of the symmetry operations of the crystal c
 --   IsPrimitiveReport c q bytes             the text of the primitive cell of c in the basis to which q takes coordinates
 --   IsReport command c kept bytes           the report that the command asks for on the crystal c, and the basis it speaks of
---   Accepts command c                       the command answers such cells
 --   IsUsage, IsRefusal     the words were outside the rule; no report was begun
 --   Outcome ws s status    what the status says, for these words and streams
 use Rattle.std.specs.Prelude.{◌≡◌, ℕ, pos, ◌<◌, ◌≤◌, Bool, true, false, List, length, take}
@@ -22,7 +21,6 @@ use Rattle.cell_text.specs.CellFile.{Spells}
 use Rattle.lattice_spec.specs.Niggli.{IsNiggli}
 use Rattle.basis_spec.specs.Bases.{cell_in_basis, IsPrimitiveIn}
 use Rattle.mag_ops.specs.Groups.{ListsGroup}
-use Rattle.mag_ops.specs.RightAngled.{IsRightAngled}
 use Rattle.report_text.specs.Pages.{page_text}
 use Rattle.report_text.specs.PrimitiveText.{cell_in_basis_text}
 use Rattle.magsym.specs.declared.command.Command.{Command}
@@ -30,7 +28,7 @@ use Rattle.magsym.specs.declared.command.Command.TheVariants.{Symmetry, Primitiv
 use Rattle.magsym.specs.declared.status.Kept.{Kept}
 use Rattle.magsym.specs.declared.status.Kept.TheVariants.{NoBase, Back}
 use Rattle.magsym.specs.declared.status.Status.{Status}
-use Rattle.magsym.specs.declared.status.Status.TheVariants.{Done, Usage, CellTooLong, CellRefused, NotRightAngled, ReadFault, WriteFault, Memory}
+use Rattle.magsym.specs.declared.status.Status.TheVariants.{Done, Usage, CellTooLong, CellRefused, ReadFault, WriteFault, Memory}
 use Rattle.magsym.specs.Commands.{command}
 
 -- The bytes that are left of the input before and after, its counts of faults, and whether an end is seen after; the bytes
@@ -76,17 +74,12 @@ IsReport (Symmetry time skip most) c (Back q) bytes = ⊥
 IsReport Primitive c NoBase bytes = ⊥
 IsReport Primitive c (Back q) bytes = IsPrimitiveReport c q bytes
 
--- `symmetry` asks for axes at right angles
-abbrev pub Accepts : Command → Structure → Type 0
-Accepts (Symmetry time skip most) c = IsRightAngled c.metric
-Accepts Primitive c = Unit {0}
-
 -- the words ask for a command
 pub record IsAsked (ws : List (List ℕ)) : Type 0 where
   pub request : Command
   pub asked : command ws ≡ Ok request
 
--- the input is the text of a cell that the command accepts, and the report is the one that the words ask for on its crystal
+-- the input is the text of a cell, and the report is the one that the words ask for on its crystal
 pub record Answers (ws : List (List ℕ)) (s : Streams) (kept : Kept) (report : List ℕ) : Type 0 where
   pub request : Command
   pub asked : command ws ≡ Ok request
@@ -94,7 +87,6 @@ pub record Answers (ws : List (List ℕ)) (s : Streams) (kept : Kept) (report : 
   pub read : ReadWhole s text
   pub cell : Structure
   pub spelled : Spells text cell
-  pub accepted : Accepts request cell
   pub is_report : IsReport request cell kept report
 
 -- the whole report was appended to the output
@@ -117,16 +109,6 @@ pub record BreaksRule (s : Streams) (line : ℕ) (fault : CellFault) : Type 0 wh
   pub read : ReadWhole s text
   pub first : cell_fault text ≡ Some (line, fault)
 
--- the input was read to its end, and spells a cell whose axes are not at right angles, as the command would ask
-pub record SpellsOblique (ws : List (List ℕ)) (s : Streams) : Type 0 where
-  pub request : Command
-  pub asked : command ws ≡ Ok request
-  pub text : List ℕ
-  pub read : ReadWhole s text
-  pub cell : Structure
-  pub spelled : Spells text cell
-  pub oblique : Accepts request cell → ⊥
-
 -- 262,145 bytes of the input were taken before an end or a fault
 pub record IsTooLong (s : Streams) : Type 0 where
   pub taken : List ℕ
@@ -148,7 +130,6 @@ IsUsage (Usage fault) = Unit {0}
 IsUsage (Done kept) = ⊥
 IsUsage (WriteFault written kept) = ⊥
 IsUsage (CellRefused line fault) = ⊥
-IsUsage NotRightAngled = ⊥
 IsUsage CellTooLong = ⊥
 IsUsage ReadFault = ⊥
 IsUsage Memory = ⊥
@@ -159,7 +140,6 @@ IsRefusal (Usage fault) = Unit {0}
 IsRefusal (Done kept) = ⊥
 IsRefusal (WriteFault written kept) = ⊥
 IsRefusal (CellRefused line fault) = Unit {0}
-IsRefusal NotRightAngled = Unit {0}
 IsRefusal CellTooLong = Unit {0}
 IsRefusal ReadFault = Unit {0}
 IsRefusal Memory = Unit {0}
@@ -171,7 +151,6 @@ Outcome ws s (Usage fault) = command ws ≡ Err fault
 Outcome ws s (Done kept) = WritesReport ws s kept
 Outcome ws s (WriteFault written kept) = WritesPart ws s kept written
 Outcome ws s (CellRefused line fault) = IsAsked ws × BreaksRule s line fault
-Outcome ws s NotRightAngled = SpellsOblique ws s
 Outcome ws s CellTooLong = IsAsked ws × IsTooLong s
 Outcome ws s ReadFault = IsAsked ws × FailsToRead s
 Outcome ws s Memory = IsAsked ws

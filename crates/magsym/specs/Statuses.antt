@@ -8,14 +8,13 @@ use Rattle.cell_text.specs.declared.fault.CellFault.TheVariants.{NotMagcell, Bad
 use Rattle.magsym.specs.declared.command.UsageFault.{UsageFault}
 use Rattle.magsym.specs.declared.command.UsageFault.TheVariants.{NoCommand, UnknownCommand, UnknownOption, RepeatedOption, MissingValue, BadValue, ExtraWord}
 use Rattle.magsym.specs.declared.status.Status.{Status}
-use Rattle.magsym.specs.declared.status.Status.TheVariants.{Done, Usage, CellTooLong, CellRefused, NotRightAngled, ReadFault, WriteFault, Memory}
+use Rattle.magsym.specs.declared.status.Status.TheVariants.{Done, Usage, CellTooLong, CellRefused, ReadFault, WriteFault, Memory}
 
 abbrev pub number_of : Status → ℕ
 number_of (Done kept) = 0
 number_of (Usage fault) = 2
 number_of CellTooLong = 3
 number_of (CellRefused line fault) = 3
-number_of NotRightAngled = 3
 number_of ReadFault = 5
 number_of (WriteFault written kept) = 6
 number_of Memory = 7
@@ -58,7 +57,6 @@ line_of (Done kept) = []
 line_of (Usage fault) = usage_line fault
 line_of CellTooLong = told (codes "cell is longer than 262144 bytes")
 line_of (CellRefused line fault) = codes "magsym: line " ++ decimal line ++ codes ": " ++ fault_line fault
-line_of NotRightAngled = told (codes "cell is not right-angled")
 line_of ReadFault = told (codes "reading failed")
 line_of (WriteFault written kept) = told (codes "writing failed")
 line_of Memory = told (codes "out of memory")

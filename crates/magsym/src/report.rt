@@ -1,16 +1,15 @@
 // The reports of the commands.
 
-ghost use Rattle.std.specs.Prelude.{◌↔◌, IfOk, IsTrue};
-ghost use Rattle.mag_ops.specs.RightAngled.{IsRightAngled};
+ghost use Rattle.std.specs.Prelude.{◌≡◌, IfOk};
 ghost use Rattle.magsym.specs.declared.command.Command.TheVariants.{Symmetry, Primitive};
-ghost use Rattle.magsym.specs.Outcomes.{IsReport, Accepts};
+ghost use Rattle.magsym.specs.Outcomes.{IsReport};
 ghost use Rattle.magsym.specs.Spelled.{IsSpelled};
 
 use crate::command::Command;
 use crate::status::Kept;
 use crystal::{Cell, Steps};
 use io_edge::Bytes;
-use mag_ops::{cell_group, is_right_angled};
+use mag_ops::{full_group, in_cell};
 use prim_cell::primitive;
 use report_text::{ops_report, prim_report};
 use std::alloc::{AllocError, Global};
@@ -23,17 +22,19 @@ pub(crate) struct Report {
     pub text: Bytes,
 }
 
-/// Whether the command answers such cells: `symmetry` asks for axes at right angles.
-pub(crate) fn accepts(command: Command, cell: &Cell) -> bool
-    ensures { IsTrue result ↔ Accepts command cell.now }
+/// The same number, if there is one, in 64 bits.
+fn widened(number: Option<u32>) -> Option<u64>
+    ensures { result ≡ number }
 {
-    match command {
-        Command::Symmetry { .. } => is_right_angled(cell.metric()),
-        Command::Primitive => true,
+    match number {
+        Some(most) => Some(most as u64),
+        None => None,
     }
 }
 
-/// The lines of a page of the symmetry operations of a cell whose axes are at right angles.
+/// The lines of a page of the symmetry operations of a cell.
+///
+/// They are those of its primitive cell whose matrices are of integers in the basis of the cell.
 fn symmetry_report<L: Ledger>(
     alloc: Global,
     cell: &Cell,
@@ -42,15 +43,15 @@ fn symmetry_report<L: Ledger>(
     take: Option<u32>,
     steps: &mut Steps<L>,
 ) -> Result<Report, AllocError>
-    requires { IsRightAngled cell.now.metric }
+    requires { IsSpelled cell.now }
     ensures { IfOk result (λ report. IsReport (Symmetry time skip take) cell.now report.kept report.text) }
 {
-    let list = cell_group(alloc, cell, time, steps)?;
-    let take = match take {
-        Some(most) => Some(most as u64),
-        None => None,
-    };
-    let text = ops_report(alloc, &list, skip as u64, take)?;
+    let _form = cell.count();
+    let made = primitive(alloc, cell)?;
+    let group = full_group(alloc, &made, time, steps)?;
+    let list = in_cell(alloc, &made, &group)?;
+    let most = widened(take);
+    let text = ops_report(alloc, &list, skip as u64, most)?;
     Ok(Report {
         kept: Kept::NoBase,
         text,
@@ -71,15 +72,14 @@ fn primitive_report(alloc: Global, cell: &Cell) -> Result<Report, AllocError>
     })
 }
 
-/// The report that the command asks for, on a cell that it accepts.
+/// The report that the command asks for.
 pub(crate) fn report_of<L: Ledger>(
     alloc: Global,
     command: Command,
     cell: &Cell,
     steps: &mut Steps<L>,
 ) -> Result<Report, AllocError>
-    requires accepted { Accepts command cell.now }
-    requires spelled { IsSpelled cell.now }
+    requires { IsSpelled cell.now }
     ensures { IfOk result (λ report. IsReport command cell.now report.kept report.text) }
 {
     match command {

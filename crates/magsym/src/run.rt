@@ -5,7 +5,7 @@ ghost use Rattle.magsym.specs.Outcomes.{Outcome, IsRefusal, IsUsage};
 ghost use Rattle.magsym.specs.Completeness.{IsAnswerable, IsDoneOrMemory};
 
 use crate::command::read_words;
-use crate::report::{accepts, report_of};
+use crate::report::report_of;
 use crate::status::Status;
 use crate::tell::tell;
 use crate::words::Words;
@@ -47,9 +47,6 @@ fn answer<I: Source, O: Sink, L: Ledger>(
         Err(CellError::Refused(line, fault)) => return Status::CellRefused(line, fault),
         Err(CellError::Memory) => return Status::Memory,
     };
-    if !accepts(command, &cell) {
-        return Status::NotRightAngled;
-    }
     let Ok(report) = report_of(alloc, command, &cell, steps) else {
         return Status::Memory;
     };

@@ -31,9 +31,6 @@ pub enum Status {
     /// The line with this number, from 1, is the first of the input that breaks a rule of the cell file.
     CellRefused(u32, CellFault),
 
-    /// The axes of the cell are not at right angles.
-    NotRightAngled,
-
     /// The input could not be read to its end.
     ReadFault,
 
@@ -52,7 +49,7 @@ impl Status {
         match self {
             Status::Done(_) => 0,
             Status::Usage(_) => 2,
-            Status::CellTooLong | Status::CellRefused(_, _) | Status::NotRightAngled => 3,
+            Status::CellTooLong | Status::CellRefused(_, _) => 3,
             Status::ReadFault => 5,
             Status::WriteFault(_, _) => 6,
             Status::Memory => 7,

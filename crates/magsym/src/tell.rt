@@ -103,7 +103,6 @@ pub(crate) fn tell<E: Sink>(err: &mut E, status: &Status)
         }
         Status::Usage(UsageFault::ExtraWord) => b"magsym: too many words\n",
         Status::CellTooLong => b"magsym: cell is longer than 262144 bytes\n",
-        Status::NotRightAngled => b"magsym: cell is not right-angled\n",
         Status::ReadFault => b"magsym: reading failed\n",
         Status::WriteFault(_, _) => b"magsym: writing failed\n",
         Status::Memory => b"magsym: out of memory\n",

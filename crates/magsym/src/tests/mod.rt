@@ -1,5 +1,6 @@
 // What runs answer over inputs and outputs in memory. All values come from the description of the formats.
 mod faults;
+mod oblique;
 mod pages;
 mod primitive;
 mod symmetry;

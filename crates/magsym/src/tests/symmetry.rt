@@ -111,14 +111,9 @@ fn reports_have_as_many_lines_as_the_crystal_has_operations(rt: HostRuntime) -> 
 fn other_inputs_are_refused(rt: HostRuntime) -> Result<(), Fail> {
     for (input, status, line) in [
         (
-            b"magcell 1\nmetric 2 2 5 0 0 -1\natom A 0 0 0 0 0 1\nend\n".as_slice(),
-            Status::NotRightAngled,
-            b"magsym: cell is not right-angled\n".as_slice(),
-        ),
-        (
-            b"magcell 1\nmetric 1 1 1 0 0 0\natom A 0 0 0 0 0 1\natom B 1 0 0 0 0 1\nend\n",
+            b"magcell 1\nmetric 1 1 1 0 0 0\natom A 0 0 0 0 0 1\natom B 1 0 0 0 0 1\nend\n".as_slice(),
             Status::CellRefused(4, CellFault::SamePlace(1, 2)),
-            b"magsym: line 4: atoms 1 and 2 stand at one place\n",
+            b"magsym: line 4: atoms 1 and 2 stand at one place\n".as_slice(),
         ),
         (
             b"",

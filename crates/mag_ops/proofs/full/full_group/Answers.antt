@@ -1,0 +1,27 @@
+use Rattle.std.proofs.Common.{◌≡◌, ◌+◌, ◌*◌, ◌≤◌, List, length, subst, sym, ap, ◌∙◌}
+use Rattle.crystal_spec.specs.Matrices.{Matrix}
+use Rattle.crystal_spec.specs.Crystals.{Structure}
+use Rattle.crystal.specs.Cells.{IsCell}
+use Rattle.lattice_iso.specs.Isometries.{ListsIsometries}
+use Rattle.basis_spec.specs.Translations.{IsRarest}
+use Rattle.prim_cell.proofs.Cells.{is_cell}
+use Rattle.mag_ops.specs.Groups.{ListsGroup, signs}
+use Rattle.mag_ops.proofs.Counts.{isometries_once}
+use Rattle.mag_ops.proofs.NothingMissed.{if_ok_more, misses_nothing}
+use Rattle.mag_ops.proofs.full.full_group.Goals as goal
+
+pub returns-clause-nothing_missed : goal.returns-clause-nothing_missed
+returns-clause-nothing_missed g c =
+    let s = c.args.prim.now.cell in
+    let cell : IsCell s = subst IsCell c.cell-cell.ensures c.count-cell.ensures.form in
+    let same : c.in_ok-places.places ≡ s = c.in_ok-places.ensures ∙ c.cell-cell.ensures in
+    if_ok_more c.all_kept.result (λ list h. misses_nothing s c.args.time list.operations (is_cell s cell) c.index-form.ensures.form.primitive (subst (λ (t : Structure). ListsGroup t c.args.time list.operations) same h)) c.all_kept.ensures.exact
+
+pub returns-clause-ticks_at_most : goal.returns-clause-ticks_at_most
+returns-clause-ticks_at_most g c ws count isometries rarest =
+    let s = c.args.prim.now.cell in
+    let same : c.in_ok-places.places ≡ s = c.in_ok-places.ensures ∙ c.cell-cell.ensures in
+    let metric = c.metric.ensures ∙ ap (λ (t : Structure). t.metric) c.cell-cell.ensures in
+    let listed = subst (λ (m : Matrix). ListsIsometries m c.in_ok-matrices.matrices) metric c.in_ok-matrices.ensures.exact in
+    subst (λ (vs : List Matrix). c.all_kept.new.steps ≤ c.args.steps.now + signs c.args.time * (length vs * count)) (isometries_once s.metric c.in_ok-matrices.matrices ws listed isometries)
+    (c.all_kept.ensures.ticks_at_most count (subst (λ (t : Structure). IsRarest t count) (sym same) rarest))

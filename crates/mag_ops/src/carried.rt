@@ -1,0 +1,207 @@
+// Operations of a primitive cell in the cell that it was made of.
+
+ghost use Rattle.std.specs.Prelude.{◌≡◌, ◌↔◌, ◌⊎◌, ◌^◌, ◌≤◌, pos, ◌+ℤ◌, map, OnOk, IfOk, IfSome, IfNone};
+ghost use Rattle.std.specs.Int.{int_rem_euclid};
+ghost use Rattle.ring.specs.Size.{AtMost};
+ghost use Rattle.crystal_spec.specs.Matrices.{Triple, Matrix, product, image, multiple, sum_of};
+ghost use Rattle.crystal_spec.specs.Crystals.{Structure};
+ghost use Rattle.crystal_spec.specs.Increasing.{IsMember};
+ghost use Rattle.crystal_spec.specs.Operations.{Operation, IsWithinCell, ListsAll, ListsAllSame};
+ghost use Rattle.crystal.specs.Bounds.{EntriesAtMost, CoordinatesAtMost};
+ghost use Rattle.basis_spec.specs.Positions.{residue};
+ghost use Rattle.basis_spec.specs.Bases.{IsCell, IsPrimitiveIn, cell_in_basis};
+ghost use Rattle.basis_spec.specs.Carrying.{IsCarried};
+ghost use Rattle.lattice_iso.specs.Columns.{of_columns};
+ghost use Rattle.op_group.specs.Views.{operation_of, translation_of};
+ghost use Rattle.mag_ops.specs.Carried.{IsCarriedFrom, IsTranslated};
+
+use crystal::Sign;
+use exact_num::{Int, Residue};
+use matrix3::{Mat3, Vec3};
+use op_group::{Op, OpList};
+use prim_cell::Primitive;
+use std::alloc::{AllocError, Global};
+
+/// A natural number as an exact integer.
+fn whole(number: u32) -> Int
+    ensures value { result ≡ pos number }
+    ensures size { AtMost (2 ^ 32) result }
+{
+    Int::new(number as i128).unwrap()
+}
+
+/// A translation part as a column of integers.
+fn column(shift: [u32; 3]) -> Vec3<Int>
+    ensures value { result ≡ translation_of shift }
+    ensures size { CoordinatesAtMost (2 ^ 32) result }
+{
+    Vec3 {
+        x: whole(shift[0]),
+        y: whole(shift[1]),
+        z: whole(shift[2]),
+    }
+}
+
+/// The column divided by the index, or `None` where a quotient is no integer.
+fn divided(column: &Vec3<Int>, index: u32) -> Option<Vec3<Int>>
+    requires { 1 ≤ index }
+    ensures found { IfSome result (λ v. column.now ≡ multiple (pos index) v) }
+    ensures absent { IfNone result ((v : Triple) → ¬ (column.now ≡ multiple (pos index) v)) }
+{
+    let index = whole(index);
+    Some(Vec3 {
+        x: column.x.div_exact(&index)?,
+        y: column.y.div_exact(&index)?,
+        z: column.z.div_exact(&index)?,
+    })
+}
+
+/// The column that Q takes to this one, or `None` where its coordinates are no integers.
+fn column_in_cell(prim: &Primitive, column: &Vec3<Int>) -> Option<Vec3<Int>>
+    requires { CoordinatesAtMost (2 ^ 32) column.now }
+    ensures found { IfSome result (λ v. image prim.now.back v ≡ column.now) }
+    ensures absent { IfNone result ((v : Triple) → ¬ (image prim.now.back v ≡ column.now)) }
+    ensures size { IfSome result (λ v. CoordinatesAtMost (10 ^ 26) v) }
+{
+    let index = prim.index();
+    let times_index = prim.fore().apply(column);
+    divided(&times_index, index)
+}
+
+/// The matrix of these columns.
+fn with_columns(a: &Vec3<Int>, b: &Vec3<Int>, c: &Vec3<Int>) -> Mat3<Int>
+    ensures { result ≡ of_columns a.now b.now c.now }
+{
+    Mat3 {
+        a11: a.x,
+        a12: b.x,
+        a13: c.x,
+        a21: a.y,
+        a22: b.y,
+        a23: c.y,
+        a31: a.z,
+        a32: b.z,
+        a33: c.z,
+    }
+}
+
+/// The matrix W with V Q = Q W, or `None` where its entries are no integers.
+fn matrix_in_cell(prim: &Primitive, v: &Mat3<Int>) -> Option<Mat3<Int>>
+    requires { EntriesAtMost 1 v.now }
+    ensures found { IfSome result (λ w. product v.now prim.now.back ≡ product prim.now.back w) }
+    ensures absent { IfNone result ((w : Matrix) → ¬ (product v.now prim.now.back ≡ product prim.now.back w)) }
+{
+    let _index = prim.index();
+    let turned = v.times(prim.back());
+    let first = Vec3 {
+        x: turned.a11,
+        y: turned.a21,
+        z: turned.a31,
+    };
+    let second = Vec3 {
+        x: turned.a12,
+        y: turned.a22,
+        z: turned.a32,
+    };
+    let third = Vec3 {
+        x: turned.a13,
+        y: turned.a23,
+        z: turned.a33,
+    };
+    Some(with_columns(
+        &column_in_cell(prim, &first)?,
+        &column_in_cell(prim, &second)?,
+        &column_in_cell(prim, &third)?,
+    ))
+}
+
+/// The sum of a coordinate and one of a translation, modulo n.
+fn sum_modulo(coordinate: Int, shift: u32, n: u32) -> u32
+    requires size { AtMost (10 ^ 26) coordinate }
+    requires at_least { 1 ≤ n }
+    requires at_most { n ≤ 10 ^ 6 }
+    ensures { pos result ≡ int_rem_euclid (coordinate +ℤ pos shift) (pos n) }
+{
+    let sum = coordinate + whole(shift);
+    Residue::new(sum.get(), n).get()
+}
+
+/// The sum of a column and a translation part, modulo n.
+fn moved(start: &Vec3<Int>, shift: [u32; 3], n: u32) -> [u32; 3]
+    requires size { CoordinatesAtMost (10 ^ 26) start.now }
+    requires at_least { 1 ≤ n }
+    requires at_most { n ≤ 10 ^ 6 }
+    ensures { translation_of result ≡ residue n (sum_of start.now (translation_of shift)) }
+{
+    [
+        sum_modulo(start.x, shift[0], n),
+        sum_modulo(start.y, shift[1], n),
+        sum_modulo(start.z, shift[2], n),
+    ]
+}
+
+/// Adds the operations of a matrix and a time sign whose translation parts are a column and a pure translation, modulo n.
+fn add_translated(
+    prim: &Primitive,
+    w: &Mat3<Int>,
+    start: &Vec3<Int>,
+    sign: Sign,
+    found: &mut Vec<Op>,
+) -> Result<(), AllocError>
+    requires { CoordinatesAtMost (10 ^ 26) start.now }
+    ensures { OnOk result ((o : Operation) → IsMember o (map operation_of found.new.items) ↔ (IsTranslated prim.now.cell.n w.now start.now sign prim.now.shifts.operations o ⊎ IsMember o (map operation_of found.old.items))) }
+{
+    let cell = prim.cell();
+    let _form = cell.count();
+    let n = cell.n();
+    let pure_translations = prim.shifts().ops();
+    for pure in pure_translations {
+        let shift = moved(start, pure.shift, n);
+        found.push(Op { w: *w, shift, sign })?;
+    }
+    Ok(())
+}
+
+/// Adds the operations of the cell that Q takes to this one of the primitive cell.
+fn add_carried(prim: &Primitive, op: &Op, found: &mut Vec<Op>) -> Result<(), AllocError>
+    requires small { EntriesAtMost 1 op.now.w }
+    requires below_n { IsWithinCell prim.now.cell.n (translation_of op.now.shift) }
+    ensures { OnOk result ((o : Operation) → IsMember o (map operation_of found.new.items) ↔ (IsCarriedFrom prim.now.cell.n prim.now.back (operation_of op.now) o ⊎ IsMember o (map operation_of found.old.items))) }
+{
+    let _form = prim.cell().count();
+    let _index = prim.index();
+    let _translations = prim.shifts().count();
+    let Some(w) = matrix_in_cell(prim, &op.w) else {
+        return Ok(());
+    };
+    let Some(start) = column_in_cell(prim, &column(op.shift)) else {
+        return Ok(());
+    };
+    add_translated(prim, &w, &start, op.sign, found)
+}
+
+/// All operations of the crystal in the basis of the cell that the primitive cell was made of, each once in order, with n that
+/// of the cell.
+///
+/// It is given all operations of the primitive cell, or all that do not reverse time, and lists the same of the cell. With Q,
+/// which takes coordinates in the cell to those in the primitive cell, an operation (V, v, sign) gives those (W, w, sign) of
+/// integers with V Q = Q W and Q w = v modulo n; where W has fractions it gives none. Refuses for want of memory alone.
+pub fn in_cell(alloc: Global, prim: &Primitive, list: &OpList) -> Result<OpList, AllocError>
+    requires group { ListsAll prim.now.cell list.now.operations ⊎ ListsAllSame prim.now.cell list.now.operations }
+    ensures n { IfOk result (λ found. found.n ≡ prim.now.cell.n) }
+    ensures exact { IfOk result (λ found. (o : Operation) → IsMember o found.operations ↔ IsCarried prim.now.cell.n prim.now.back list.now.operations o) }
+    ensures all { IfOk result (λ found. (c : Structure) → IsCell c → IsPrimitiveIn c prim.now.back → cell_in_basis c prim.now.back ≡ prim.now.cell → ListsAll prim.now.cell list.now.operations → ListsAll c found.operations) }
+    ensures all_same { IfOk result (λ found. (c : Structure) → IsCell c → IsPrimitiveIn c prim.now.back → cell_in_basis c prim.now.back ≡ prim.now.cell → ListsAllSame prim.now.cell list.now.operations → ListsAllSame c found.operations) }
+{
+    let cell = prim.cell();
+    let _form = cell.count();
+    let _index = prim.index();
+    let ops = list.ops();
+    let mut carried = Vec::new(alloc);
+    for op in ops {
+        add_carried(prim, op, &mut carried)?;
+    }
+    let found = OpList::sorted(cell.n(), carried);
+    let _count = found.count();
+    Ok(found)
+}
