@@ -1,0 +1,111 @@
+-- What is found for an atom is its orbit.
+use Rattle.std.proofs.Common.{◌≡◌, sym, ap, subst, ◌∙◌, ℕ, pos, ◌≤◌, ◌<ℤ◌, List, [], ◌∷◌, ◌++◌, length, map, ◌⊎◌, inl, inr, arith}
+use Rattle.std.specs.Prelude.{◌↔◌, slice_get, Some}
+use Rattle.std.proofs.lemmas.Int.{ints}
+use Rattle.std.proofs.lemmas.Option.{slice_get_within}
+use Rattle.crystal_spec.specs.Matrices.{Triple, Matrix, image}
+use Rattle.crystal_spec.specs.Crystals.{Site, Structure}
+use Rattle.crystal_spec.specs.Increasing.{IsIncreasing, IsMember}
+use Rattle.crystal_spec.specs.Operations.{Operation, compare_of, ListsAll}
+use Rattle.crystal_spec.proofs.Images.{IsApart, occupied_itself}
+use Rattle.crystal.specs.Cells.{IsCell}
+use Rattle.crystal.proofs.CellLemmas.{apart_cell}
+use Rattle.crystal.proofs.ImageLemmas.{member_at}
+use Rattle.basis_spec.specs.Positions.{residue}
+use Rattle.basis_spec.specs.Bases.{SameCrystal}
+use Rattle.basis_spec.proofs.PrimitiveAtoms.{one_atom_each_of_apart}
+use Rattle.op_group.specs.Groups.{IsGroupModulo}
+use Rattle.op_group.proofs.GroupLaws.{group_of_all}
+use Rattle.site_orbits.specs.Orbits.{IsAlike, IsEquivalence, HasOneSpecies, ListsSite, CountsOrbit}
+use Rattle.site_orbits.specs.Entries.{AtomOrbit, IsOrbitAt, HaveOrbits}
+use Rattle.site_orbits.specs.Images.{image_within, atoms_at, IsFirstAmong}
+use Rattle.site_orbits.proofs.Carrying.{fixed_exactly}
+use Rattle.site_orbits.proofs.Counting.{counts_orbit, first_alike, some_same}
+use Rattle.site_orbits.proofs.Equivalence.{equivalence_of_group, one_species}
+use Rattle.site_orbits.proofs.Fixing.{either_way}
+use Rattle.site_orbits.proofs.Stabilizer.{orbit_stabilizer}
+use Rattle.site_orbits.proofs.Walking.{slice_get_pushed}
+
+positive_n : (n : ℕ) → 1 ≤ n → pos 0 <ℤ pos n
+positive_n n h = omega (arith, ints, h)
+
+-- what is found for an atom: its position p in the basis of the primitive cell modulo m, the images qs of that, and the rest
+pub record IsFound (c : Structure) (r : Matrix) (b : Structure) (os : List Operation) (i m : ℕ) (p : Triple) (qs : List Triple) (o : AtomOrbit) : Type 0 where
+  pub site : Site
+  pub is_site : slice_get c.sites i ≡ Some site
+  pub place_is : p ≡ residue c.n (image r site.position)
+  pub images_are : qs ≡ map (image_within m p) os
+  pub first : IsFirstAmong c.n r qs c.sites i o.first
+  pub size : o.size ≡ length (atoms_at qs b.sites)
+  pub same_n : o.site.n ≡ m
+  pub ordered : IsIncreasing compare_of o.site.operations
+  pub exact : (u : Operation) → IsMember u o.site.operations ↔ (IsMember u os × (image_within m p u ≡ p))
+
+module _ (c b : Structure) (r : Matrix) (os : List Operation) (cell : IsCell c) (primitive : IsCell b) (same : SameCrystal c b r) (all : ListsAll b os) where
+  group : IsGroupModulo b.n os
+  group = group_of_all b primitive.positive primitive.n_at_least os all
+
+  -- being alike is an equivalence
+  pub alike_equivalence : IsEquivalence (IsAlike c.n os)
+  alike_equivalence = subst (λ (n : ℕ). IsEquivalence (IsAlike n os)) same.n (equivalence_of_group b.n os group)
+
+  -- and atoms that are alike are of one species
+  pub alike_species : HasOneSpecies c r (IsAlike c.n os)
+  alike_species x y mx my h =
+      one_species c b r os same (one_atom_each_of_apart b (apart_cell b primitive)) all x y mx my
+      (subst (λ (n : ℕ). IsAlike n os (image r x.position) (image r y.position)) (sym same.n) h)
+
+  pub orbit_found : (i m : ℕ) (p : Triple) (qs : List Triple) (o : AtomOrbit) → m ≡ b.n → IsFound c r b os i m p qs o → IsOrbitAt c r b os i o
+  orbit_found i m p qs o same_m found a at = record {
+    first = first_alike c r os a i o.first (positive_n c.n cell.n_at_least) (slice_get_within c.sites i a at) at (alike_equivalence.reflexive q) (subst (λ (l : List Triple). IsFirstAmong c.n r l c.sites i o.first) images_c found.first);
+    size = counts;
+    same_n = found.same_n ∙ same_m;
+    site = lists;
+    product = orbit_stabilizer b os a.species q (image r a.moment) o.size o.site.operations primitive.n_at_least (one_atom_each_of_apart b apart) all group
+        ((same.crystal a.species a.position a.moment).0 (occupied_itself c a (member_at c.sites i a at))) counts lists;
+  }
+    where
+      q : Triple
+      q = image r a.position
+
+      apart : IsApart b
+      apart = apart_cell b primitive
+
+      place_c : p ≡ residue c.n q
+      place_c = found.place_is ∙ ap (λ (x : Site). residue c.n (image r x.position)) (some_same found.site a (sym found.is_site ∙ at))
+
+      place_b : p ≡ residue b.n q
+      place_b = place_c ∙ ap (λ (n : ℕ). residue n q) (sym same.n)
+
+      images_b : qs ≡ map (image_within b.n (residue b.n q)) os
+      images_b = found.images_are ∙ (λ k. map (image_within (same_m k) (place_b k)) os)
+
+      images_c : qs ≡ map (image_within c.n (residue c.n q)) os
+      images_c = found.images_are ∙ (λ k. map (image_within ((same_m ∙ same.n) k) (place_c k)) os)
+
+      counts : CountsOrbit b os q o.size
+      counts = counts_orbit b os q o.size (positive_n b.n primitive.n_at_least) apart.distinct apart.within (found.size ∙ ap (λ (l : List Triple). length (atoms_at l b.sites)) images_b)
+
+      lists : ListsSite b.n os q o.site.operations
+      lists = record {
+        increasing = found.ordered;
+        exact = λ u. either_way (subst (λ (t : Triple). IsMember u o.site.operations ↔ (IsMember u os × (image_within b.n t u ≡ t))) place_b
+            (subst (λ (n : ℕ). IsMember u o.site.operations ↔ (IsMember u os × (image_within n p u ≡ p))) same_m (found.exact u)))
+            (fixed_exactly b.n (positive_n b.n primitive.n_at_least) os q u);
+      }
+
+-- ---- the list of all
+pub no_orbits : (c : Structure) (r : Matrix) (b : Structure) (os : List Operation) (made : List AtomOrbit) → made ≡ [] → HaveOrbits c r b os made
+no_orbits c r b os made none i o is = absurd (nothing i (subst (λ (l : List AtomOrbit). slice_get l i ≡ Some o) none is))
+  where
+    nothing : (i : ℕ) → slice_get {X = AtomOrbit} [] i ≡ Some o → ⊥
+    nothing i e = cc e
+
+-- one more
+pub orbits_more : (c : Structure) (r : Matrix) (b : Structure) (os : List Operation) (i : ℕ) (made made' : List AtomOrbit) (x : AtomOrbit) → made' ≡ made ++ x ∷ [] → length made ≡ i → IsOrbitAt c r b os i x →
+    HaveOrbits c r b os made → HaveOrbits c r b os made'
+orbits_more c r b os i made made' x grown long is have j o at = by (slice_get_pushed made x o j (subst (λ (l : List AtomOrbit). slice_get l j ≡ Some o) grown at))
+  where
+    by : (slice_get made j ≡ Some o) ⊎ ((j ≡ length made) × (o ≡ x)) → IsOrbitAt c r b os j o
+    by (inl h) = have j o h
+    by (inr h) = subst (λ (k : ℕ). IsOrbitAt c r b os k o) (sym (h.0 ∙ long)) (subst (IsOrbitAt c r b os i) (sym h.1) is)

@@ -1,0 +1,274 @@
+-- Orbit and stabilizer: the size of an orbit times the number of members that leave the position is the number of members.
+--
+-- For each atom of the orbit one member is fixed that carries the position to it. A member of the site-symmetry group and
+-- after it such a member give a member of the group; each is given once so. For two of these that give the same carry the
+-- position to the same atom, so they are the same, and may be undone; and any member carries the position to an atom of the
+-- orbit, so with the inverse of the member that was fixed for that atom after it, it leaves the position.
+use Rattle.std.proofs.Common.{◌≡◌, refl, sym, ap, subst, ◌∙◌, ◌⊎◌, inl, inr, ℕ, suc, ◌+◌, ◌*◌, ◌≤◌, List, [], ◌∷◌, ◌++◌, length, map, arith}
+use Rattle.std.proofs.lemmas.List.{length-map}
+use Rattle.crystal_spec.specs.Matrices.{Triple}
+use Rattle.crystal_spec.specs.Crystals.{Site, Structure, Occupied, position_after}
+use Rattle.crystal_spec.specs.Increasing.{IsMember, IsDistinct}
+use Rattle.crystal_spec.specs.Operations.{Operation, compare_of, ListsAll}
+use Rattle.crystal_spec.proofs.Ordered.{compare_total}
+use Rattle.basis_spec.specs.Positions.{DiffersByCells}
+use Rattle.basis_spec.specs.Bases.{HasOneAtomEach}
+use Rattle.basis_spec.proofs.TranslationLists.{increasing_distinct}
+use Rattle.basis_spec.proofs.Counting.{length_le, mapped_once}
+use Rattle.basis_spec.proofs.FirstAtoms.{mapped_from, mapped_member}
+use Rattle.basis_spec.proofs.PrimitiveCell.{differs_sym, differs_trans, differs_itself}
+use Rattle.op_group.specs.Composition.{identity_operation, IsComposed, IsInverseModulo}
+use Rattle.op_group.specs.Groups.{IsGroupModulo}
+use Rattle.op_group.proofs.Composing.{composed_once, composed_associates, identity_next}
+use Rattle.op_group.proofs.GroupLaws.{composed_member, composition, composition_is}
+use Rattle.site_orbits.specs.Orbits.{Carries, IsAlike, IsFixedBy, ListsSite, CountsOrbit}
+use Rattle.site_orbits.proofs.Carrying.{carries_as}
+use Rattle.site_orbits.proofs.Equivalence.{carries_composed, carries_back}
+
+-- ---- lists of all pairs
+member_left : {X : Type 0} (z : X) (xs ys : List X) → IsMember z xs → IsMember z (xs ++ ys)
+member_left z [] ys m = absurd m
+member_left z (x ∷ xs) ys (inl e) = inl e
+member_left z (x ∷ xs) ys (inr m) = inr (member_left z xs ys m)
+
+member_right : {X : Type 0} (z : X) (xs ys : List X) → IsMember z ys → IsMember z (xs ++ ys)
+member_right z [] ys m = m
+member_right z (x ∷ xs) ys m = inr (member_right z xs ys m)
+
+member_either : {X : Type 0} (z : X) (xs ys : List X) → IsMember z (xs ++ ys) → IsMember z xs ⊎ IsMember z ys
+member_either z [] ys m = inr m
+member_either z (x ∷ xs) ys (inl e) = inl (inl e)
+member_either z (x ∷ xs) ys (inr m) = by (member_either z xs ys m)
+  where
+    by : IsMember z xs ⊎ IsMember z ys → IsMember z (x ∷ xs) ⊎ IsMember z ys
+    by (inl k) = inl (inr k)
+    by (inr k) = inr k
+
+distinct_both : {X : Type 0} (xs ys : List X) → IsDistinct xs → IsDistinct ys → ((z : X) → IsMember z xs → IsMember z ys → ⊥) → IsDistinct (xs ++ ys)
+distinct_both [] ys d e apart = e
+distinct_both {X} (x ∷ xs) ys d e apart = (new, distinct_both xs ys d.1 e (λ z m k. apart z (inr m) k))
+  where
+    by : IsMember x xs ⊎ IsMember x ys → ⊥
+    by (inl m) = d.0 m
+    by (inr m) = apart x (inl refl) m
+
+    new : IsMember x (xs ++ ys) → ⊥
+    new m = by (member_either x xs ys m)
+
+length_both : {X : Type 0} (xs ys : List X) → length (xs ++ ys) ≡ length xs + length ys
+length_both [] ys = omega arith
+length_both (x ∷ xs) ys = let e = length_both xs ys in omega (arith, e)
+
+-- h of each x and y
+pairs : {X Y Z : Type 0} → (X → Y → Z) → List X → List Y → List Z
+pairs h [] ys = []
+pairs h (x ∷ xs) ys = map (h x) ys ++ pairs h xs ys
+
+record PairOf {X Y Z : Type 0} (h : X → Y → Z) (xs : List X) (ys : List Y) (z : Z) : Type 0 where
+  left : X
+  right : Y
+  of_left : IsMember left xs
+  of_right : IsMember right ys
+  is : z ≡ h left right
+
+pair_of : {X Y Z : Type 0} (h : X → Y → Z) (xs : List X) (ys : List Y) (z : Z) → IsMember z (pairs h xs ys) → PairOf h xs ys z
+unfolding pairs
+pair_of h [] ys z m = absurd m
+pair_of h (x ∷ xs) ys z m = by (member_either z (map (h x) ys) (pairs h xs ys) m) (pair_of h xs ys z)
+  where
+    by : IsMember z (map (h x) ys) ⊎ IsMember z (pairs h xs ys) → (IsMember z (pairs h xs ys) → PairOf h xs ys z) → PairOf h (x ∷ xs) ys z
+    by (inl k) rec = let r = mapped_from (h x) z ys k in record { left = x; right = r.item; of_left = inl refl; of_right = r.of_list; is = r.is }
+    by (inr k) rec = let r = rec k in record { left = r.left; right = r.right; of_left = inr r.of_left; of_right = r.of_right; is = r.is }
+
+pair_member : {X Y Z : Type 0} (h : X → Y → Z) (x : X) (y : Y) (xs : List X) (ys : List Y) → IsMember x xs → IsMember y ys → IsMember (h x y) (pairs h xs ys)
+unfolding pairs
+pair_member h x y [] ys m k = absurd m
+pair_member {X} {Y} {Z} h x y (a ∷ xs) ys (inl e) k = member_left (h x y) (map (h a) ys) (pairs h xs ys) (subst (λ (b : X). IsMember (h x y) (map (h b) ys)) e (mapped_member (h x) y ys k))
+pair_member h x y (a ∷ xs) ys (inr m) k = member_right (h x y) (map (h a) ys) (pairs h xs ys) (pair_member h x y xs ys m k)
+
+more_rows : (a b n l : ℕ) → l ≡ n * b → b + l ≡ suc n * b
+more_rows a b n l e = omega (arith, e)
+
+pairs_length : {X Y Z : Type 0} (h : X → Y → Z) (xs : List X) (ys : List Y) → length (pairs h xs ys) ≡ length xs * length ys
+unfolding pairs
+pairs_length h [] ys = omega arith
+pairs_length h (x ∷ xs) ys = length_both (map (h x) ys) (pairs h xs ys) ∙ ap (λ n. n + length (pairs h xs ys)) (length-map ys (h x)) ∙ more_rows 0 (length ys) (length xs) (length (pairs h xs ys)) (pairs_length h xs ys)
+
+-- h is one to one on the members
+record OneToOne {X Y Z : Type 0} (h : X → Y → Z) (xs : List X) (ys : List Y) : Type 0 where
+  left : (x x' : X) (y y' : Y) → IsMember x xs → IsMember x' xs → IsMember y ys → IsMember y' ys → h x y ≡ h x' y' → x ≡ x'
+  right : (x : X) (y y' : Y) → IsMember x xs → IsMember y ys → IsMember y' ys → h x y ≡ h x y' → y ≡ y'
+
+pairs_distinct : {X Y Z : Type 0} (h : X → Y → Z) (xs : List X) (ys : List Y) → IsDistinct xs → IsDistinct ys → OneToOne h xs ys → IsDistinct (pairs h xs ys)
+unfolding pairs
+pairs_distinct h [] ys d e one = tt
+pairs_distinct {X} {Y} {Z} h (x ∷ xs) ys d e one = distinct_both (map (h x) ys) (pairs h xs ys)
+    (mapped_once (h x) ys e (λ a b m k f. one.right x a b (inl refl) m k f))
+    (pairs_distinct h xs ys d.1 e (record { left = λ a b u v m n k l f. one.left a b u v (inr m) (inr n) k l f; right = λ a u v m k l f. one.right a u v (inr m) k l f }))
+    apart
+  where
+    apart : (z : Z) → IsMember z (map (h x) ys) → IsMember z (pairs h xs ys) → ⊥
+    apart z m k =
+        let r = mapped_from (h x) z ys m in
+        let q = pair_of h xs ys z k in
+        d.0 (subst (λ (a : X). IsMember a xs) (sym (one.left x q.left r.item q.right (inl refl) (inr q.of_left) r.of_list q.of_right (sym r.is ∙ q.is))) q.of_left)
+
+-- ---- one member for each atom
+-- where an operation carries a position to two positions, these differ by whole cells
+carried_once : {n : ℕ} (o : Operation) (p : Triple) {q u : Triple} → Carries n o p q → Carries n o p u → DiffersByCells n q u
+carried_once o p f g = differs_trans (differs_sym f) g
+
+record Reached (n : ℕ) (o : Operation) (p : Triple) (atoms : List Site) : Type 0 where
+  atom : Site
+  of_list : IsMember atom atoms
+  carries : Carries n o p atom.position
+
+record Chosen (n : ℕ) (list : List Operation) (p : Triple) (a : Site) : Type 0 where
+  operation : Operation
+  of_list : IsMember operation list
+  carries : Carries n operation p a.position
+
+record Choice (n : ℕ) (os : List Operation) (p : Triple) (atoms : List Site) : Type 0 where
+  list : List Operation
+  once : IsDistinct list
+  same_length : length list ≡ length atoms
+  members : (o : Operation) → IsMember o list → IsMember o os
+  reaches : (o : Operation) → IsMember o list → Reached n o p atoms
+  chosen : (a : Site) → IsMember a atoms → Chosen n list p a
+  one : (a b : Operation) (q : Triple) → IsMember a list → IsMember b list → Carries n a p q → Carries n b p q → a ≡ b
+
+-- no two atoms are at one position, but for whole cells
+abbrev IsApart : ℕ → List Site → Type 0
+IsApart n atoms = (a b : Site) → IsMember a atoms → IsMember b atoms → DiffersByCells n a.position b.position → a ≡ b
+
+choice_more : (n : ℕ) (os : List Operation) (p : Triple) (x : Site) (atoms : List Site) → (IsMember x atoms → ⊥) → IsApart n (x ∷ atoms) → IsAlike n os p x.position → Choice n os p atoms → Choice n os p (x ∷ atoms)
+choice_more n os p x atoms fresh apart to_x rest = record {
+  list = first ∷ rest.list;
+  once = (new, rest.once);
+  same_length = ap suc rest.same_length;
+  members = members;
+  reaches = reaches;
+  chosen = chosen;
+  one = one;
+}
+  where
+    first : Operation
+    first = to_x.operation
+
+    -- a later one does not carry p to where the first does
+    other : (b : Operation) (q : Triple) → IsMember b rest.list → Carries n first p q → Carries n b p q → ⊥
+    other b q m f g =
+        let r = rest.reaches b m in
+        let e : x ≡ r.atom = apart x r.atom (inl refl) (inr r.of_list) (differs_trans (carried_once first p to_x.carries f) (carried_once b p g r.carries)) in
+        fresh (subst (λ (a : Site). IsMember a atoms) (sym e) r.of_list)
+
+    new : IsMember first rest.list → ⊥
+    new m = other first x.position m to_x.carries to_x.carries
+
+    members : (o : Operation) → (o ≡ first) ⊎ IsMember o rest.list → IsMember o os
+    members o (inl e) = subst (λ (a : Operation). IsMember a os) (sym e) to_x.of_list
+    members o (inr m) = rest.members o m
+
+    reaches : (o : Operation) → (o ≡ first) ⊎ IsMember o rest.list → Reached n o p (x ∷ atoms)
+    reaches o (inl e) = record { atom = x; of_list = inl refl; carries = subst (λ (a : Operation). Carries n a p x.position) (sym e) to_x.carries }
+    reaches o (inr m) = let r = rest.reaches o m in record { atom = r.atom; of_list = inr r.of_list; carries = r.carries }
+
+    chosen : (a : Site) → (a ≡ x) ⊎ IsMember a atoms → Chosen n (first ∷ rest.list) p a
+    chosen a (inl e) = record { operation = first; of_list = inl refl; carries = subst (λ (b : Site). Carries n first p b.position) (sym e) to_x.carries }
+    chosen a (inr m) = let r = rest.chosen a m in record { operation = r.operation; of_list = inr r.of_list; carries = r.carries }
+
+    one : (a b : Operation) (q : Triple) → (a ≡ first) ⊎ IsMember a rest.list → (b ≡ first) ⊎ IsMember b rest.list → Carries n a p q → Carries n b p q → a ≡ b
+    one a b q (inl e) (inl e') f g = e ∙ sym e'
+    one a b q (inl e) (inr k) f g = absurd (other b q k (subst (λ (o : Operation). Carries n o p q) e f) g)
+    one a b q (inr m) (inl e) f g = absurd (other a q m (subst (λ (o : Operation). Carries n o p q) e g) f)
+    one a b q (inr m) (inr k) f g = rest.one a b q m k f g
+
+choice : (n : ℕ) (os : List Operation) (p : Triple) (atoms : List Site) → IsDistinct atoms → IsApart n atoms → ((a : Site) → IsMember a atoms → IsAlike n os p a.position) → Choice n os p atoms
+choice n os p [] d apart alike = record { list = []; once = tt; same_length = refl; members = λ o m. absurd m; reaches = λ o m. absurd m; chosen = λ a m. absurd m; one = λ a b q m k f g. absurd m }
+choice n os p (x ∷ atoms) d apart alike =
+    choice_more n os p x atoms d.0 apart (alike x (inl refl)) (choice n os p atoms d.1 (λ a b m k e. apart a b (inr m) (inr k) e) (λ a m. alike a (inr m)))
+
+-- ---- the count
+module _ (n : ℕ) (os : List Operation) (p : Triple) (at_least : 1 ≤ n) (g : IsGroupModulo n os) (site : List Operation) (exact : (o : Operation) → IsMember o site → IsFixedBy n os p o) (every : (o : Operation) → IsFixedBy n os p o → IsMember o site) where
+  -- first s and after it a
+  both : Operation → Operation → Operation
+  both a s = composition n s a
+
+  both_is : (a s : Operation) → IsComposed n s a (both a s)
+  unfolding both
+  both_is a s = composition_is n s a at_least
+
+  both_member : (a s : Operation) → IsMember a os → IsMember s os → IsMember (both a s) os
+  both_member a s m k = composed_member n os g s a (both a s) k m (both_is a s)
+
+  -- what undoes a, after both, leaves s
+  undone : (a b s : Operation) → IsMember s os → IsInverseModulo n a b → s ≡ both b (both a s)
+  undone a b s m i =
+      composed_once n s identity_operation s (both b (both a s)) (identity_next n s (g.within_cell s m))
+      (composed_associates n s a b (both a s) identity_operation (both b (both a s)) (both_is a s) i.after (both_is b (both a s)))
+
+  -- s leaves p, so both carry p to where a carries it
+  both_carry : (a s : Operation) (q : Triple) → IsMember s site → Carries n a p q → Carries n (both a s) p q
+  both_carry a s q m f = carries_composed s a (both a s) p (both_is a s) (exact s m).1 f
+
+  module _ (atoms : List Site) (k : Choice n os p atoms) (reached : (o : Operation) → IsMember o os → Reached n o p atoms) where
+    where_to : Operation → Triple
+    where_to a = position_after a.matrix a.translation p
+
+    itself : (a : Operation) → Carries n a p (where_to a)
+    unfolding where_to
+    itself a = differs_itself n (where_to a)
+
+    one_to_one : OneToOne both k.list site
+    one_to_one = record {
+      left = λ a b s t ma mb ms mt e.
+          let f = both_carry a s (where_to a) ms (itself a) in
+          let h = both_carry b t (where_to b) mt (itself b) in
+          let same = carried_once (both b t) p h (subst (λ (o : Operation). Carries n o p (where_to a)) e f) in
+          k.one a b (where_to a) ma mb (itself a) (carries_as b (differs_itself n p) same (itself b));
+      right = λ a s t ma ms mt e.
+          let i = g.inverses a (k.members a ma) in
+          undone a i.0 s (exact s ms).0 i.1.1 ∙ ap (both i.0) e ∙ sym (undone a i.0 t (exact t mt).0 i.1.1);
+    }
+
+    -- each member is given
+    given : (o : Operation) → IsMember o os → IsMember o (pairs both k.list site)
+    given o m =
+        let r = reached o m in
+        let a = k.chosen r.atom r.of_list in
+        let i = g.inverses a.operation (k.members a.operation a.of_list) in
+        let b = i.0 in
+        let s = both b o in
+        let fixed : IsFixedBy n os p s = (both_member b o i.1.0 m, carries_composed o b s p (both_is b o) r.carries (carries_back a.operation b i.1.1.after a.carries)) in
+        let is : o ≡ both a.operation s = composed_once n o identity_operation o (both a.operation s) (identity_next n o (g.within_cell o m))
+        (composed_associates n o b a.operation s identity_operation (both a.operation s) (both_is b o) i.1.1.before (both_is a.operation s)) in
+        subst (λ (x : Operation). IsMember x (pairs both k.list site)) (sym is) (pair_member both a.operation s k.list site a.of_list (every s fixed))
+
+    -- and nothing else
+    of_group : (o : Operation) → IsMember o (pairs both k.list site) → IsMember o os
+    of_group o m =
+        let r = pair_of both k.list site o m in
+        subst (λ (x : Operation). IsMember x os) (sym r.is) (both_member r.left r.right (k.members r.left r.of_left) (exact r.right r.of_right).0)
+
+    counted : IsDistinct os → IsDistinct site → length atoms * length site ≡ length os
+    counted d e =
+        let up = length_le os (pairs both k.list site) d given in
+        let down = length_le (pairs both k.list site) os (pairs_distinct both k.list site k.once e one_to_one) of_group in
+        let l = pairs_length both k.list site ∙ ap (λ (i : ℕ). i * length site) k.same_length in
+        omega (arith, up, down, l)
+
+-- the size of the orbit of an occupied position times the count of its site-symmetry group is the count of the group
+pub orbit_stabilizer : (c : Structure) (os : List Operation) (s : ℕ) (p m : Triple) (k : ℕ) (site : List Operation) → 1 ≤ c.n → HasOneAtomEach c → ListsAll c os → IsGroupModulo c.n os →
+    Occupied c s p m → CountsOrbit c os p k → ListsSite c.n os p site → k * length site ≡ length os
+orbit_stabilizer c os s p m k site at_least one all g occupied orbit fixed =
+    ap (λ (i : ℕ). i * length site) orbit.is ∙ counted c.n os p at_least g site (λ o. (fixed.exact o).0) (λ o. (fixed.exact o).1) orbit.atoms chosen reached
+    (increasing_distinct compare_of compare_total os all.increasing) (increasing_distinct compare_of compare_total site fixed.increasing)
+  where
+    chosen : Choice c.n os p orbit.atoms
+    chosen = choice c.n os p orbit.atoms orbit.once (λ a b ma mb e. one a b ((orbit.exact a).0 ma).0 ((orbit.exact b).0 mb).0 e) (λ a ma. ((orbit.exact a).0 ma).1)
+
+    reached : (o : Operation) → IsMember o os → Reached c.n o p orbit.atoms
+    reached o mo =
+        let to = (((all.exact o).0 mo).keeps.crystal s p m).0 occupied in
+        let carries : Carries c.n o p to.site.position = record { cells = to.cells; is = to.same_position } in
+        record { atom = to.site; of_list = (orbit.exact to.site).1 (to.of_cell, record { operation = o; of_list = mo; carries = carries }); carries = carries }

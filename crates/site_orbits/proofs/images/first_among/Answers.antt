@@ -1,0 +1,36 @@
+use Rattle.std.proofs.Common.{◌≡◌, refl, sym, ap, subst, ◌∙◌, inl, inr, ℕ, true, map, arith}
+use Rattle.crystal_spec.specs.Crystals.{Site}
+use Rattle.crystal_spec.specs.Matrices.{Triple, image}
+use Rattle.crystal_spec.specs.Increasing.{IsMember}
+use Rattle.crystal.specs.Views.{site_of, triple_of}
+use Rattle.basis_spec.specs.Positions.{residue}
+use Rattle.site_orbits.specs.Images.{position_in}
+use Rattle.site_orbits.proofs.Counting.{none_more, some_same}
+use Rattle.site_orbits.proofs.images.first_among.Goals as goal
+
+pub loop-j-init : goal.loop-j-init
+loop-j-init c = λ k a l. absurd (omega (arith, l))
+
+pub returns-then-is_among : goal.returns-then-is_among
+returns-then-is_among c =
+    let s = c.args.cell.now in
+    let x = site_of c.atom.result.now in
+    let is : triple_of c.place_in_basis.result ≡ position_in s.n c.args.r.now x = c.place_in_basis.ensures ∙ ap (λ (n : ℕ). residue n (image c.args.r.now x.position)) c.n-n.ensures in
+    let here = subst (λ (p : Triple). IsMember p (map triple_of c.args.images.now)) is (c.is_among.ensures.0 c.if-is_among.true) in
+    record {
+      at_most = omega arith;
+      found = λ a e. inr (subst (λ (b : Site). IsMember (position_in s.n c.args.r.now b) (map triple_of c.args.images.now)) (some_same x a (sym c.atom.ensures.value ∙ e)) here);
+      none_before = c.loop-j.invariant;
+    }
+
+pub loop-j-preserved : goal.loop-j-preserved
+loop-j-preserved c =
+    let s = c.args.cell.now in
+    let x = site_of c.atom.result.now in
+    let is : triple_of c.place_in_basis.result ≡ position_in s.n c.args.r.now x = c.place_in_basis.ensures ∙ ap (λ (n : ℕ). residue n (image c.args.r.now x.position)) c.n-n.ensures in
+    none_more s.n c.args.r.now (map triple_of c.args.images.now) s.sites c.loop-j.j x c.atom.ensures.value
+    (λ m. let yes : c.is_among.result ≡ true = c.is_among.ensures.1 (subst (λ (p : Triple). IsMember p (map triple_of c.args.images.now)) (sym is) m) in cc (sym c.if-is_among.false ∙ yes))
+    c.loop-j.invariant
+
+pub returns : goal.returns
+returns c = record { at_most = omega arith; found = λ a e. inl refl; none_before = λ k a l. c.loop-j.invariant k a (omega (arith, l)) }
