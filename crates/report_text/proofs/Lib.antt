@@ -1,4 +1,7 @@
+pub mod DatasetLemmas
 mod KnownValues
 pub mod LineLemmas
+pub mod OrbitLemmas
 mod PageLemmas
+pub mod PlainTexts
 pub mod PrimitiveLemmas

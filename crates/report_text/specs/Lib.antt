@@ -1,3 +1,5 @@
+pub mod DatasetText
 pub mod OperationText
+pub mod OrbitText
 pub mod Pages
 pub mod PrimitiveText

@@ -7,6 +7,7 @@
 --   fraction_text n t               t/n in lowest terms, behind a plus
 --   row_text n x y z t              the part of a coordinate, of these coefficients and this translation
 --   sign_text s                     the time sign
+--   parts_text n o                  the four parts of an operation, joined by commas
 --   operation_text n o              the line of an operation
 --   operations_text l               the lines of the operations of a list, in order
 use Rattle.std.specs.Prelude.{ℕ, zero, suc, ◌/◌, ℤ, pos, negsuc, nat_abs, Bool, true, false, List, [], ◌∷◌, ◌++◌, ◌&&◌, codes}
@@ -52,12 +53,17 @@ abbrev pub sign_text : Sign → List ℕ
 sign_text Same = codes "+1"
 sign_text Reversed = codes "-1"
 
-unfoldable pub operation_text : ℕ → Operation → List ℕ
-operation_text n o =
+-- the four parts, joined by commas
+unfoldable pub parts_text : ℕ → Operation → List ℕ
+parts_text n o =
     row_text n o.matrix.a11 o.matrix.a12 o.matrix.a13 o.translation.x ++ codes ","
     ++ row_text n o.matrix.a21 o.matrix.a22 o.matrix.a23 o.translation.y ++ codes ","
     ++ row_text n o.matrix.a31 o.matrix.a32 o.matrix.a33 o.translation.z ++ codes ","
-    ++ sign_text o.sign ++ 10 ∷ []
+    ++ sign_text o.sign
+
+-- the parts, and LF
+abbrev pub operation_text : ℕ → Operation → List ℕ
+operation_text n o = parts_text n o ++ 10 ∷ []
 
 -- the lines of these operations
 abbrev pub lines_text : ℕ → List Operation → List ℕ

@@ -1,7 +1,7 @@
 // The lines of symmetry operations.
 ghost use Rattle.std.specs.Prelude.{decimal, ◌≡◌, ◌++◌, ◌∷◌, [], pos, OnOk, IfOk};
 ghost use Rattle.op_group.specs.Views.{operation_of};
-ghost use Rattle.report_text.specs.OperationText.{plus_text, term_text, terms_text, fraction_text, row_text, sign_text, operation_text};
+ghost use Rattle.report_text.specs.OperationText.{plus_text, term_text, terms_text, fraction_text, row_text, sign_text, parts_text, operation_text};
 ghost use Rattle.report_text.specs.Pages.{page_text};
 
 use crate::pages::page;
@@ -108,9 +108,9 @@ fn push_sign(out: &mut Bytes, sign: Sign) -> Result<(), AllocError>
     }
 }
 
-/// Adds the line of an operation.
-fn push_operation(alloc: Global, out: &mut Bytes, n: u32, op: &Op) -> Result<(), AllocError>
-    ensures { OnOk result (out.new ≡ out.old ++ operation_text n (operation_of op.now)) }
+/// Adds the four parts of an operation, joined by commas.
+pub(crate) fn push_parts(alloc: Global, out: &mut Bytes, n: u32, op: &Op) -> Result<(), AllocError>
+    ensures { OnOk result (out.new ≡ out.old ++ parts_text n (operation_of op.now)) }
 {
     let w = op.w;
     let [x, y, z] = op.shift;
@@ -121,6 +121,14 @@ fn push_operation(alloc: Global, out: &mut Bytes, n: u32, op: &Op) -> Result<(),
     push_row(alloc, out, n, w.a31, w.a32, w.a33, z)?;
     out.push(b',')?;
     push_sign(out, op.sign)?;
+    Ok(())
+}
+
+/// Adds the line of an operation.
+fn push_operation(alloc: Global, out: &mut Bytes, n: u32, op: &Op) -> Result<(), AllocError>
+    ensures { OnOk result (out.new ≡ out.old ++ operation_text n (operation_of op.now)) }
+{
+    push_parts(alloc, out, n, op)?;
     out.push(b'\n')?;
     Ok(())
 }

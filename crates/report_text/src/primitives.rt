@@ -32,8 +32,12 @@ fn push_integers(alloc: Global, out: &mut Bytes, integers: &[i128]) -> Result<()
     Ok(())
 }
 
-/// Adds the entries of a matrix, row by row.
-fn push_entries(alloc: Global, out: &mut Bytes, matrix: &Mat3<Int>) -> Result<(), AllocError>
+/// Adds the entries of a matrix row by row, a space before each.
+pub(crate) fn push_entries(
+    alloc: Global,
+    out: &mut Bytes,
+    matrix: &Mat3<Int>,
+) -> Result<(), AllocError>
     ensures { OnOk result (out.new ≡ out.old ++ entries_text matrix.now) }
 {
     let q = *matrix;
