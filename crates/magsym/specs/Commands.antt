@@ -17,7 +17,7 @@ use Rattle.cell_text.specs.Numbers.{is_digits, decimal}
 use Rattle.magsym.specs.declared.options.Awaited.TheVariants.{AnyOption, ValueOfSkip, ValueOfTake}
 use Rattle.magsym.specs.declared.options.Options.{Options}
 use Rattle.magsym.specs.declared.command.Command.{Command}
-use Rattle.magsym.specs.declared.command.Command.TheVariants.{Symmetry, Primitive}
+use Rattle.magsym.specs.declared.command.Command.TheVariants.{Symmetry, Primitive, Dataset, Orbits}
 use Rattle.magsym.specs.declared.command.UsageFault.{UsageFault}
 use Rattle.magsym.specs.declared.command.UsageFault.TheVariants.{NoCommand, UnknownCommand, UnknownOption, RepeatedOption, MissingValue, BadValue, ExtraWord}
 
@@ -93,4 +93,6 @@ command [] = Err NoCommand
 command (name ∷ later) =
     if same_word name (codes "symmetry") then options no_options later
     else if same_word name (codes "primitive") then alone Primitive later
+    else if same_word name (codes "dataset") then alone Dataset later
+    else if same_word name (codes "orbits") then alone Orbits later
     else Err UnknownCommand

@@ -3,6 +3,8 @@
 --   ReadWhole s text       all of the input is this text, and its end was seen
 --   SymmetryReport c time skip most bytes   the lines of a page of the symmetry operations of the crystal c
 --   IsPrimitiveReport c q bytes             the text of the primitive cell of c in the basis to which q takes coordinates
+--   IsDatasetReport c q bytes               what is found of c, as JSON, with its primitive cell in the basis of q
+--   IsOrbitReport c q bytes                 the orbits of the atoms of c, with its primitive cell in the basis of q
 --   IsReport command c kept bytes           the report that the command asks for on the crystal c, and the basis it speaks of
 --   IsUsage, IsRefusal     the words were outside the rule; no report was begun
 --   Outcome ws s status    what the status says, for these words and streams
@@ -14,17 +16,23 @@ use Rattle.std.specs.Io.KnownBytes.{Appends, Consumes, IsAtEnd}
 use Rattle.io_edge.specs.Causes.{Rose}
 use Rattle.crystal_spec.specs.Matrices.{Matrix, determinant}
 use Rattle.crystal_spec.specs.Crystals.{Structure}
-use Rattle.crystal_spec.specs.Operations.{Operation}
+use Rattle.crystal_spec.specs.Operations.{Operation, ListsAll}
 use Rattle.cell_text.specs.declared.fault.CellFault.{CellFault}
 use Rattle.cell_text.specs.Rules.{cell_fault}
 use Rattle.cell_text.specs.CellFile.{Spells}
 use Rattle.lattice_spec.specs.Niggli.{IsNiggli}
 use Rattle.basis_spec.specs.Bases.{cell_in_basis, IsPrimitiveIn}
+use Rattle.mag_type.specs.declared.classification.Kind.{Kind}
+use Rattle.mag_type.specs.Families.{IsInFamily, IsUnprimed, IsNumberOf}
+use Rattle.mag_type.specs.MagneticTypes.{IsMagneticType}
 use Rattle.mag_ops.specs.Groups.{ListsGroup}
+use Rattle.site_orbits.specs.Entries.{AtomOrbit, HaveOrbits}
 use Rattle.report_text.specs.Pages.{page_text}
 use Rattle.report_text.specs.PrimitiveText.{cell_in_basis_text}
+use Rattle.report_text.specs.DatasetText.{dataset_text}
+use Rattle.report_text.specs.OrbitText.{orbit_text}
 use Rattle.magsym.specs.declared.command.Command.{Command}
-use Rattle.magsym.specs.declared.command.Command.TheVariants.{Symmetry, Primitive}
+use Rattle.magsym.specs.declared.command.Command.TheVariants.{Symmetry, Primitive, Dataset, Orbits}
 use Rattle.magsym.specs.declared.status.Kept.{Kept}
 use Rattle.magsym.specs.declared.status.Kept.TheVariants.{NoBase, Back}
 use Rattle.magsym.specs.declared.status.Status.{Status}
@@ -67,12 +75,49 @@ pub record IsPrimitiveReport (c : Structure) (q : Matrix) (bytes : List ℕ) : T
   pub index_is : pos index ≡ determinant q
   pub lines : bytes ≡ cell_in_basis_text index q (cell_in_basis c q)
 
+-- Q takes coordinates to those in a Niggli-reduced basis of all translations of the crystal. The bytes are the text of the
+-- index, Q, the metric tensor there, the list of all symmetry operations there, the number of those of the cell, the
+-- magnetic type with the orders of the family group and of the maximal space subgroup, and the orbits of the atoms.
+pub record IsDatasetReport (c : Structure) (q : Matrix) (bytes : List ℕ) : Type 0 where
+  pub primitive : IsPrimitiveIn c q
+  pub niggli : IsNiggli (cell_in_basis c q).metric
+  pub index : ℕ
+  pub index_is : pos index ≡ determinant q
+  pub operations : List Operation
+  pub all : ListsAll (cell_in_basis c q) operations
+  pub operations_of_cell : List Operation
+  pub all_of_cell : ListsAll c operations_of_cell
+  pub kind : Kind
+  pub is_type : IsMagneticType operations kind.kind
+  pub family : IsNumberOf (IsInFamily operations) kind.family
+  pub unprimed : IsNumberOf (IsUnprimed operations) kind.unprimed
+  pub orbits : List AtomOrbit
+  pub of_each_atom : length orbits ≡ length c.sites
+  pub are_orbits : HaveOrbits c q (cell_in_basis c q) operations orbits
+  pub lines : bytes ≡ dataset_text index q (cell_in_basis c q) (record { n = c.n; operations = operations }) (length operations_of_cell) kind orbits
+
+-- Q takes coordinates to those in such a basis. The bytes are the lines of the orbits of the atoms under the list of all
+-- symmetry operations there, with the site-symmetry groups.
+pub record IsOrbitReport (c : Structure) (q : Matrix) (bytes : List ℕ) : Type 0 where
+  pub primitive : IsPrimitiveIn c q
+  pub niggli : IsNiggli (cell_in_basis c q).metric
+  pub operations : List Operation
+  pub all : ListsAll (cell_in_basis c q) operations
+  pub orbits : List AtomOrbit
+  pub of_each_atom : length orbits ≡ length c.sites
+  pub are_orbits : HaveOrbits c q (cell_in_basis c q) operations orbits
+  pub lines : bytes ≡ orbit_text c.names c.sites orbits
+
 -- the report that the command asks for, which speaks of this basis
 abbrev pub IsReport : Command → Structure → Kept → List ℕ → Type 0
 IsReport (Symmetry time skip most) c NoBase bytes = SymmetryReport c time skip most bytes
 IsReport (Symmetry time skip most) c (Back q) bytes = ⊥
 IsReport Primitive c NoBase bytes = ⊥
 IsReport Primitive c (Back q) bytes = IsPrimitiveReport c q bytes
+IsReport Dataset c NoBase bytes = ⊥
+IsReport Dataset c (Back q) bytes = IsDatasetReport c q bytes
+IsReport Orbits c NoBase bytes = ⊥
+IsReport Orbits c (Back q) bytes = IsOrbitReport c q bytes
 
 -- the words ask for a command
 pub record IsAsked (ws : List (List ℕ)) : Type 0 where

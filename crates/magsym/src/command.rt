@@ -17,6 +17,12 @@ pub enum Command {
 
     /// The primitive cell, in a Niggli-reduced basis.
     Primitive,
+
+    /// The magnetic type, the operations of the primitive cell, and the orbits of the atoms.
+    Dataset,
+
+    /// The orbits of the atoms, and their site-symmetry groups.
+    Orbits,
 }
 
 /// Why the words ask for nothing: the first fault from the left.
@@ -78,6 +84,12 @@ pub fn read_words(words: &Words) -> Result<Command, UsageFault>
     }
     if name == b"primitive".as_slice() {
         return alone(Command::Primitive, words);
+    }
+    if name == b"dataset".as_slice() {
+        return alone(Command::Dataset, words);
+    }
+    if name == b"orbits".as_slice() {
+        return alone(Command::Orbits, words);
     }
     Err(UsageFault::UnknownCommand)
 }

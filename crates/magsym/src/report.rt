@@ -1,7 +1,8 @@
 // The reports of the commands.
 
 ghost use Rattle.std.specs.Prelude.{◌≡◌, IfOk};
-ghost use Rattle.magsym.specs.declared.command.Command.TheVariants.{Symmetry, Primitive};
+ghost use Rattle.magsym.specs.declared.command.Command.TheVariants.{Symmetry, Primitive, Dataset, Orbits};
+ghost use Rattle.magsym.specs.declared.status.Kept.TheVariants.{Back};
 ghost use Rattle.magsym.specs.Outcomes.{IsReport};
 ghost use Rattle.magsym.specs.Spelled.{IsSpelled};
 
@@ -10,8 +11,10 @@ use crate::status::Kept;
 use crystal::{Cell, Steps};
 use io_edge::Bytes;
 use mag_ops::{full_group, in_cell};
+use mag_type::classify;
 use prim_cell::primitive;
-use report_text::{ops_report, prim_report};
+use report_text::{dataset_report, ops_report, orbit_report, prim_report};
+use site_orbits::orbits;
 use std::alloc::{AllocError, Global};
 use std::sync::ledger::Ledger;
 
@@ -58,6 +61,13 @@ fn symmetry_report<L: Ledger>(
     })
 }
 
+/// The basis of a primitive cell, which its report speaks of.
+fn kept(made: &prim_cell::Primitive) -> Kept
+    ensures { result ≡ Back made.now.back }
+{
+    Kept::Back(*made.back())
+}
+
 /// The text of the primitive cell.
 fn primitive_report(alloc: Global, cell: &Cell) -> Result<Report, AllocError>
     requires { IsSpelled cell.now }
@@ -67,7 +77,52 @@ fn primitive_report(alloc: Global, cell: &Cell) -> Result<Report, AllocError>
     let made = primitive(alloc, cell)?;
     let text = prim_report(alloc, &made)?;
     Ok(Report {
-        kept: Kept::Back(*made.back()),
+        kept: kept(&made),
+        text,
+    })
+}
+
+/// What is found of a cell: its primitive cell with all operations of that, and the magnetic type.
+fn report_of_dataset<L: Ledger>(
+    alloc: Global,
+    cell: &Cell,
+    steps: &mut Steps<L>,
+) -> Result<Report, AllocError>
+    requires { IsSpelled cell.now }
+    ensures { IfOk result (λ report. IsReport Dataset cell.now report.kept report.text) }
+{
+    let _form = cell.count();
+    let made = primitive(alloc, cell)?;
+    let primitive_cell = made.cell();
+    let _primitive_form = primitive_cell.count();
+    let group = full_group(alloc, &made, true, steps)?;
+    let listed = in_cell(alloc, &made, &group)?;
+    let kind = classify(&group);
+    let order = listed.count() as u64;
+    let found = orbits(alloc, cell, &made, &group)?;
+    let text = dataset_report(alloc, &made, &group, order, &kind, &found, cell.count())?;
+    Ok(Report {
+        kept: kept(&made),
+        text,
+    })
+}
+
+/// The orbits of the atoms of a cell, and their site-symmetry groups.
+fn report_of_orbits<L: Ledger>(
+    alloc: Global,
+    cell: &Cell,
+    steps: &mut Steps<L>,
+) -> Result<Report, AllocError>
+    requires { IsSpelled cell.now }
+    ensures { IfOk result (λ report. IsReport Orbits cell.now report.kept report.text) }
+{
+    let _form = cell.count();
+    let made = primitive(alloc, cell)?;
+    let group = full_group(alloc, &made, true, steps)?;
+    let found = orbits(alloc, cell, &made, &group)?;
+    let text = orbit_report(alloc, cell, &found)?;
+    Ok(Report {
+        kept: kept(&made),
         text,
     })
 }
@@ -87,5 +142,7 @@ pub(crate) fn report_of<L: Ledger>(
             symmetry_report(alloc, cell, time, skip, take, steps)
         }
         Command::Primitive => primitive_report(alloc, cell),
+        Command::Dataset => report_of_dataset(alloc, cell, steps),
+        Command::Orbits => report_of_orbits(alloc, cell, steps),
     }
 }

@@ -1,6 +1,8 @@
 // What runs answer over inputs and outputs in memory. All values come from the description of the formats.
+mod dataset;
 mod faults;
 mod oblique;
+mod orbits;
 mod pages;
 mod primitive;
 mod symmetry;
@@ -53,4 +55,19 @@ fn answer_to(
         out,
         err,
     })
+}
+
+/// How many lines there are.
+fn lines(bytes: &[u8]) -> usize {
+    bytes.iter().filter(|byte| **byte == b'\n').count()
+}
+
+/// Whether these bytes stand somewhere in the text.
+fn has(text: &[u8], wanted: &[u8]) -> bool {
+    for i in 0..text.len() {
+        if text[i..].starts_with(wanted) {
+            return true;
+        }
+    }
+    false
 }

@@ -1,23 +1,8 @@
 // The command `symmetry` on cells with axes at any angles: skew, flat, hexagonal and centred ones.
-use super::answer_to;
+use super::{answer_to, has, lines};
 use crate::status::{Kept, Status};
 use io_edge::Bytes;
 use std::test::Fail;
-
-/// How many lines there are.
-fn lines(bytes: &[u8]) -> usize {
-    bytes.iter().filter(|byte| **byte == b'\n').count()
-}
-
-/// Whether these bytes stand somewhere in the text.
-fn has(text: &[u8], wanted: &[u8]) -> bool {
-    for i in 0..text.len() {
-        if text[i..].starts_with(wanted) {
-            return true;
-        }
-    }
-    false
-}
 
 #[test]
 fn cells_of_any_angles_have_all_their_operations(rt: HostRuntime) -> Result<(), Fail> {

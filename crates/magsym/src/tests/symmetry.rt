@@ -1,12 +1,12 @@
 // The command `symmetry`: reports, and inputs that are refused.
-use super::{CUBIC, answer_to};
+use super::{CUBIC, answer_to, lines};
 use crate::status::{Kept, Status};
 use cell_text::CellFault;
 use io_edge::Bytes;
 use std::test::Fail;
 
 /// The operations of a cube with a moment along c.
-const CUBIC_REPORT: &[u8] =
+pub(super) const CUBIC_REPORT: &[u8] =
     b"-x,-y,-z,+1\n-x,-y,z,+1\n-x,y,-z,-1\n-x,y,z,-1\n-y,-x,-z,-1\n-y,-x,z,-1\n\
 -y,x,-z,+1\n-y,x,z,+1\ny,-x,-z,+1\ny,-x,z,+1\ny,x,-z,-1\ny,x,z,-1\nx,-y,-z,-1\nx,-y,z,-1\nx,y,-z,+1\nx,y,z,+1\n";
 
@@ -50,11 +50,6 @@ atom F 61/200 61/200 0\natom F -61/200 -61/200 0\natom F 161/200 39/200 1/2\nato
         assert_eq!(rt; ran.err.held(), b"".as_slice());
     }
     Ok(())
-}
-
-/// How many lines there are.
-fn lines(bytes: &[u8]) -> usize {
-    bytes.iter().filter(|byte| **byte == b'\n').count()
 }
 
 #[test]

@@ -103,6 +103,16 @@ fn faults_in_the_words_leave_the_input(rt: HostRuntime) -> Result<(), Fail> {
             b"magsym: too many words\n",
         ),
         (
+            [b"orbits".as_slice(), b"--skip", b"1"].as_slice(),
+            UsageFault::ExtraWord,
+            b"magsym: too many words\n",
+        ),
+        (
+            [b"dataset".as_slice(), b"x"].as_slice(),
+            UsageFault::ExtraWord,
+            b"magsym: too many words\n",
+        ),
+        (
             [b"primitive".as_slice(), b"--skip", b"1"].as_slice(),
             UsageFault::ExtraWord,
             b"magsym: too many words\n",
