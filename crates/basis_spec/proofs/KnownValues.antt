@@ -3,6 +3,7 @@ use Rattle.std.proofs.lemmas.Int.{ints}
 use Rattle.std.proofs.Common.{subst, length, ◌<◌, ◌+ℤ◌, ◌*ℤ◌, ◌≤ℤ◌, ◌<ℤ◌, List, inl, inr, ap, sym, ◌∙◌, arith, ◌≡◌, ℤ, pos, negsuc, [], ◌∷◌, refl}
 use Rattle.crystal_spec.specs.Matrices.{Triple, sum_of, Matrix, product, determinant, adjugate, identity}
 use Rattle.basis_spec.specs.Metrics.{matrix_multiple}
+use Rattle.crystal_spec.specs.Moments.{axial_vectors, turn_matrix}
 use Rattle.crystal_spec.specs.Crystals.{Site, Structure}
 use Rattle.crystal_spec.specs.Increasing.{IsMember}
 use Rattle.crystal_spec.specs.Operations.{IsWithinCell, Operation}
@@ -23,6 +24,7 @@ centred = record {
   metric = rows (pos 1) (pos 0) (pos 0) (pos 0) (pos 1) (pos 0) (pos 0) (pos 0) (pos 1);
   n = 2;
   k = 1;
+  kind = axial_vectors;
   sites = record { species = 0; position = triple (pos 0) (pos 0) (pos 0); moment = triple (pos 0) (pos 0) (pos 1) } ∷ record { species = 0; position = triple (pos 1) (pos 1) (pos 1); moment = triple (pos 0) (pos 0) (pos 1) } ∷ [];
 }
 
@@ -51,9 +53,10 @@ primitive_cell : cell_in_basis centred back ≡ record {
   metric = rows (pos 4) (pos 0) (pos 2) (pos 0) (pos 4) (pos 2) (pos 2) (pos 2) (pos 3);
   n = 2;
   k = 1;
+  kind = axial_vectors;
   sites = record { species = 0; position = triple (pos 0) (pos 0) (pos 0); moment = triple (negsuc 0) (negsuc 0) (pos 2) } ∷ [];
 }
-unfolding cell_in_basis centred back rows residue
+unfolding cell_in_basis turn_matrix centred back rows residue
 primitive_cell = refl
 
 -- it is a cell: two positions that differ by a half do not differ by whole cells

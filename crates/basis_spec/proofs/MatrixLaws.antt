@@ -4,17 +4,15 @@ use Rattle.std.proofs.Common.{◌≡◌, ℤ, pos, negsuc, ◌*ℤ◌, [], ◌�
 use Rattle.ring.specs.Ring.{Expr, quoted, var, con, ◌:*◌, int_ops}
 use Rattle.matrix3.specs.declared.vector.Vec3.{Vec3}
 use Rattle.matrix3.specs.declared.matrix.Mat3.{Mat3}
-use Rattle.matrix3.specs.Matrices.{dot, entries, coordinates, matrix_map, matrix_of_variables, vector_of_variables}
+use Rattle.matrix3.specs.Matrices.{dot, entries, coordinates, matrix_of_variables, vector_of_variables}
 use Rattle.matrix3.specs.Matrices as formulas
 use Rattle.crystal_spec.specs.Matrices.{Triple, Matrix, product, difference, image, determinant, adjugate, multiple, sum_of, identity, transposed}
 use Rattle.crystal_spec.proofs.Identities.{by_integers, by_triples, by_matrices}
+pub use Rattle.crystal_spec.proofs.MatrixLaws.{quoted_multiple, image-product, image-identity, image-matrix_multiple, multiple_swap, product-matrix_multiple_left, product-matrix_multiple_right}
 use Rattle.basis_spec.specs.Positions.{triple, origin}
 use Rattle.basis_spec.specs.Metrics.{matrix_multiple, metric_in}
 
 -- this crate's words as expressions
-abbrev quoted_multiple : Expr → Mat3 Expr → Mat3 Expr
-quoted_multiple k a = matrix_map (λ x. k :* x) a
-
 abbrev quoted_metric : Mat3 Expr → Mat3 Expr → Mat3 Expr
 quoted_metric p g = formulas.product quoted (formulas.transposed p) (formulas.product quoted g p)
 
@@ -35,13 +33,6 @@ product_assoc a b c =
     let z = matrix_of_variables 18 in
     by_matrices (entries a ++ entries b ++ entries c) (formulas.product quoted (formulas.product quoted x y) z) (formulas.product quoted x (formulas.product quoted y z)) refl
 
-pub image-product : (a b : Matrix) (v : Triple) → image (product a b) v ≡ image a (image b v)
-image-product a b v =
-    let x = matrix_of_variables 0 in
-    let y = matrix_of_variables 9 in
-    let z = vector_of_variables 18 in
-    by_triples (entries a ++ entries b ++ coordinates v) (formulas.image quoted (formulas.product quoted x y) z) (formulas.image quoted x (formulas.image quoted y z)) refl
-
 pub image-sum_of : (a : Matrix) (u v : Triple) → image a (sum_of u v) ≡ sum_of (image a u) (image a v)
 image-sum_of a u v =
     let x = matrix_of_variables 0 in
@@ -55,26 +46,10 @@ image-multiple a k v =
     let y = vector_of_variables 10 in
     by_triples (entries a ++ k ∷ coordinates v) (formulas.image quoted x (formulas.multiple quoted (var 9) y)) (formulas.multiple quoted (var 9) (formulas.image quoted x y)) refl
 
-pub image-matrix_multiple : (k : ℤ) (a : Matrix) (v : Triple) → image (matrix_multiple k a) v ≡ multiple k (image a v)
-image-matrix_multiple k a v =
-    let x = matrix_of_variables 1 in
-    let y = vector_of_variables 10 in
-    by_triples (k ∷ entries a ++ coordinates v) (formulas.image quoted (quoted_multiple (var 0) x) y) (formulas.multiple quoted (var 0) (formulas.image quoted x y)) refl
-
-pub image-identity : (v : Triple) → image identity v ≡ v
-image-identity v =
-    let x = vector_of_variables 0 in
-    by_triples (coordinates v) (formulas.image quoted (formulas.scalar quoted (con (pos 1))) x) x refl
-
 pub multiple-multiple : (k l : ℤ) (v : Triple) → multiple k (multiple l v) ≡ multiple (k *ℤ l) v
 multiple-multiple k l v =
     let x = vector_of_variables 2 in
     by_triples (k ∷ l ∷ coordinates v) (formulas.multiple quoted (var 0) (formulas.multiple quoted (var 1) x)) (formulas.multiple quoted (var 0 :* var 1) x) refl
-
-pub multiple_swap : (k l : ℤ) (v : Triple) → multiple k (multiple l v) ≡ multiple l (multiple k v)
-multiple_swap k l v =
-    let x = vector_of_variables 2 in
-    by_triples (k ∷ l ∷ coordinates v) (formulas.multiple quoted (var 0) (formulas.multiple quoted (var 1) x)) (formulas.multiple quoted (var 1) (formulas.multiple quoted (var 0) x)) refl
 
 pub multiple-sum_of : (k : ℤ) (u v : Triple) → multiple k (sum_of u v) ≡ sum_of (multiple k u) (multiple k v)
 multiple-sum_of k u v =
@@ -217,18 +192,6 @@ pub adjugate-product : (g : Matrix) → product (adjugate g) g ≡ matrix_multip
 adjugate-product g =
     let x = matrix_of_variables 0 in
     by_matrices (entries g) (formulas.product quoted (formulas.adjugate quoted x) x) (quoted_multiple (formulas.determinant quoted x) (formulas.scalar quoted (con (pos 1)))) refl
-
-pub product-matrix_multiple_right : (k : ℤ) (a b : Matrix) → product a (matrix_multiple k b) ≡ matrix_multiple k (product a b)
-product-matrix_multiple_right k a b =
-    let x = matrix_of_variables 1 in
-    let y = matrix_of_variables 10 in
-    by_matrices (k ∷ entries a ++ entries b) (formulas.product quoted x (quoted_multiple (var 0) y)) (quoted_multiple (var 0) (formulas.product quoted x y)) refl
-
-pub product-matrix_multiple_left : (k : ℤ) (a b : Matrix) → product (matrix_multiple k a) b ≡ matrix_multiple k (product a b)
-product-matrix_multiple_left k a b =
-    let x = matrix_of_variables 1 in
-    let y = matrix_of_variables 10 in
-    by_matrices (k ∷ entries a ++ entries b) (formulas.product quoted (quoted_multiple (var 0) x) y) (quoted_multiple (var 0) (formulas.product quoted x y)) refl
 
 pub matrix_multiple-twice : (k l : ℤ) (a : Matrix) → matrix_multiple k (matrix_multiple l a) ≡ matrix_multiple (k *ℤ l) a
 matrix_multiple-twice k l a =

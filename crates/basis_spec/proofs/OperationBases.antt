@@ -9,6 +9,8 @@ use Rattle.std.proofs.lemmas.Int.{ints}
 use Rattle.ring.specs.Ring.{var, ◌:*◌}
 use Rattle.crystal_spec.specs.Matrices.{Triple, Matrix, product, image, determinant, multiple, sum_of, identity}
 use Rattle.basis_spec.specs.Metrics.{matrix_multiple, metric_in}
+use Rattle.crystal_spec.specs.declared.MomentKind.{MomentKind}
+use Rattle.crystal_spec.specs.Moments.{turn_matrix}
 use Rattle.crystal_spec.specs.Crystals.{Structure, Occupied, Keeps, position_after, moment_after, IsPositive}
 use Rattle.basis_spec.specs.Translations.{IsTranslation, HasOnlyWholeCells}
 use Rattle.basis_spec.specs.Bases.{SameCrystal}
@@ -16,7 +18,8 @@ use Rattle.basis_spec.proofs.MatrixLaws.{Factor, factor, same_images, image-iden
 use Rattle.basis_spec.proofs.Cancelling.{mul_cancel, multiple_cancel, matrix_multiple_cancel, sum_cancel, image_cancel, metric_in_cancel, square_positive}
 use Rattle.basis_spec.proofs.Translations.{occupied_as, occupied_away, is_translation, moves, moves_back, translation_carried, source}
 use Rattle.crystal_spec.proofs.Identities.{by_integers}
-use Rattle.crystal_spec.proofs.Isometries.{cancel_image, cancel_moment, determinant-isometry, determinant-product}
+use Rattle.crystal_spec.proofs.Isometries.{cancel_image, determinant-isometry, determinant-product}
+use Rattle.crystal_spec.proofs.Moments.{cancel_moment, moment_after-turned}
 
 -- the map of the other basis that (w, translation, sign) is: an integer V with V R = R W, and the translation R w
 pub record KeepsThere (c' : Structure) (r : Matrix) (w : Matrix) (translation : Triple) (sign : ℤ) : Type 0 where
@@ -46,8 +49,8 @@ pub keeps_moved : (c : Structure) (w : Matrix) (t u : Triple) (sign : ℤ) → I
 keeps_moved c w t u sign is k = record {
   metric = k.metric;
   crystal = λ s p m. (
-    (λ o. occupied_as c s (position_after-moved w t u p) refl (moves c u is s (position_after w t p) (moment_after w sign m) ((k.crystal s p m).0 o))),
-    (λ o. (k.crystal s p m).1 (moves_back c u is s (position_after w t p) (moment_after w sign m) (occupied_as c s (sym (position_after-moved w t u p)) refl o))),
+    (λ o. occupied_as c s (position_after-moved w t u p) refl (moves c u is s (position_after w t p) (moment_after c.kind w sign m) ((k.crystal s p m).0 o))),
+    (λ o. (k.crystal s p m).1 (moves_back c u is s (position_after w t p) (moment_after c.kind w sign m) (occupied_as c s (sym (position_after-moved w t u p)) refl o))),
   );
 }
 
@@ -74,16 +77,16 @@ module _ (c c' : Structure) (r : Matrix) (same : SameCrystal c c' r) where
   -- what is a translation there is one here
   pub translation_here : (t : Triple) → IsTranslation c' (image r t) → IsTranslation c t
   translation_here t is = is_translation c t
-      (λ s p m o. (same.crystal s (sum_of p t) m).1 (occupied_as c' s (sym (image-sum_of r p t)) refl (moves c' (image r t) is s (image r p) (image r m) ((same.crystal s p m).0 o))))
-      (λ s p m o. (same.crystal s p m).1 (moves_back c' (image r t) is s (image r p) (image r m) (occupied_as c' s (image-sum_of r p t) refl ((same.crystal s (sum_of p t) m).0 o))))
+      (λ s p m o. (same.crystal s (sum_of p t) m).1 (occupied_as c' s (sym (image-sum_of r p t)) refl (moves c' (image r t) is s (image r p) (image (turn_matrix c.kind r) m) ((same.crystal s p m).0 o))))
+      (λ s p m o. (same.crystal s p m).1 (moves_back c' (image r t) is s (image r p) (image (turn_matrix c.kind r) m) (occupied_as c' s (image-sum_of r p t) refl ((same.crystal s (sum_of p t) m).0 o))))
 
   -- ---- from the other basis to this one
   pub keeps_here : (w : Matrix) (translation : Triple) (sign : ℤ) → KeepsThere c' r w translation sign → Keeps c w translation sign
   keeps_here w translation sign k = record {
     metric = kept;
     crystal = λ s p m. (
-      (λ o. (same.crystal s (position_after w translation p) (moment_after w sign m)).1 (occupied_as c' s (position_is p) (moment_is m) ((k.keeps.crystal s (image r p) (image r m)).0 ((same.crystal s p m).0 o)))),
-      (λ o. (same.crystal s p m).1 ((k.keeps.crystal s (image r p) (image r m)).1 (occupied_as c' s (sym (position_is p)) (sym (moment_is m)) ((same.crystal s (position_after w translation p) (moment_after w sign m)).0 o)))),
+      (λ o. (same.crystal s (position_after w translation p) (moment_after c.kind w sign m)).1 (occupied_as c' s (position_is p) (moment_is m) ((k.keeps.crystal s (image r p) (image (turn_matrix c.kind r) m)).0 ((same.crystal s p m).0 o)))),
+      (λ o. (same.crystal s p m).1 ((k.keeps.crystal s (image r p) (image (turn_matrix c.kind r) m)).1 (occupied_as c' s (sym (position_is p)) (sym (moment_is m)) ((same.crystal s (position_after w translation p) (moment_after c.kind w sign m)).0 o)))),
     );
   }
     where
@@ -102,8 +105,8 @@ module _ (c c' : Structure) (r : Matrix) (same : SameCrystal c c' r) where
       position_is : (p : Triple) → position_after k.matrix (image r translation) (image r p) ≡ image r (position_after w translation p)
       position_is p = ap (λ u. sum_of u (image r translation)) (turned p) ∙ sym (image-sum_of r (image w p) translation)
 
-      moment_is : (m : Triple) → moment_after k.matrix sign (image r m) ≡ image r (moment_after w sign m)
-      moment_is m = (λ i. multiple (sign *ℤ determinant_is i) (turned m i)) ∙ sym (image-multiple r (sign *ℤ determinant w) (image w m))
+      moment_is : (m : Triple) → moment_after c'.kind k.matrix sign (image (turn_matrix c.kind r) m) ≡ image (turn_matrix c.kind r) (moment_after c.kind w sign m)
+      moment_is m = ap (λ (kind : MomentKind). moment_after kind k.matrix sign (image (turn_matrix c.kind r) m)) same.kind ∙ moment_after-turned c.kind k.matrix w r sign k.turned determinant_is m
 
       kept : metric_in w c.metric ≡ c.metric
       kept = matrix_multiple_cancel (determinant r *ℤ determinant r) (metric_in w c.metric) c.metric (square_positive (determinant r) r_above)
@@ -118,8 +121,8 @@ module _ (c c' : Structure) (r : Matrix) (same : SameCrystal c c' r) where
     -- each triple of whole cells there is the image of a triple
     from_cells : (y : Triple) → (t : Triple) × (image (matrix_multiple (pos c.n) identity) y ≡ image r t)
     from_cells y =
-        let there : Occupied c' s (sum_of (image r p) (multiple (pos c'.n) y)) (image r m) = occupied_away c' s (image r p) (image r m) y ((same.crystal s p m).0 o) in
-        let f = same.onto s (sum_of (image r p) (multiple (pos c'.n) y)) (image r m) there in
+        let there : Occupied c' s (sum_of (image r p) (multiple (pos c'.n) y)) (image (turn_matrix c.kind r) m) = occupied_away c' s (image r p) (image (turn_matrix c.kind r) m) y ((same.crystal s p m).0 o) in
+        let f = same.onto s (sum_of (image r p) (multiple (pos c'.n) y)) (image (turn_matrix c.kind r) m) there in
         let t = sum_of f.old_position (multiple (negsuc 0) p) in (
           t,
           image-matrix_multiple (pos c.n) identity y ∙ ap (multiple (pos c.n)) (image-identity y) ∙ ap (λ k. multiple k y) (sym n') ∙ sym (
@@ -187,21 +190,21 @@ module _ (c c' : Structure) (r : Matrix) (same : SameCrystal c c' r) where
         position_is : (p : Triple) → position_after v.matrix (image r translation) (image r p) ≡ image r (position_after w translation p)
         position_is p = ap (λ u. sum_of u (image r translation)) (turns p) ∙ sym (image-sum_of r (image w p) translation)
 
-        moment_is : (m : Triple) → moment_after v.matrix sign (image r m) ≡ image r (moment_after w sign m)
-        moment_is m = (λ i. multiple (sign *ℤ determinant_is i) (turns m i)) ∙ sym (image-multiple r (sign *ℤ determinant w) (image w m))
+        moment_is : (m : Triple) → moment_after c'.kind v.matrix sign (image (turn_matrix c.kind r) m) ≡ image (turn_matrix c.kind r) (moment_after c.kind w sign m)
+        moment_is m = ap (λ (kind : MomentKind). moment_after kind v.matrix sign (image (turn_matrix c.kind r) m)) same.kind ∙ moment_after-turned c.kind v.matrix w r sign turned determinant_is m
 
-        forth : (t : ℕ) (q l : Triple) → Occupied c' t q l → Occupied c' t (position_after v.matrix (image r translation) q) (moment_after v.matrix sign l)
+        forth : (t : ℕ) (q l : Triple) → Occupied c' t q l → Occupied c' t (position_after v.matrix (image r translation) q) (moment_after c'.kind v.matrix sign l)
         forth t q l a =
             let f = same.onto t q l a in
-            occupied_as c' t (sym (position_is f.old_position) ∙ ap (position_after v.matrix (image r translation)) f.position_is) (sym (moment_is f.old_moment) ∙ ap (moment_after v.matrix sign) f.moment_is)
-            ((same.crystal t (position_after w translation f.old_position) (moment_after w sign f.old_moment)).0 ((k.crystal t f.old_position f.old_moment).0 f.occupied))
+            occupied_as c' t (sym (position_is f.old_position) ∙ ap (position_after v.matrix (image r translation)) f.position_is) (sym (moment_is f.old_moment) ∙ ap (moment_after c'.kind v.matrix sign) f.moment_is)
+            ((same.crystal t (position_after w translation f.old_position) (moment_after c.kind w sign f.old_moment)).0 ((k.crystal t f.old_position f.old_moment).0 f.occupied))
 
-        back : (t : ℕ) (q l : Triple) → Occupied c' t (position_after v.matrix (image r translation) q) (moment_after v.matrix sign l) → Occupied c' t q l
+        back : (t : ℕ) (q l : Triple) → Occupied c' t (position_after v.matrix (image r translation) q) (moment_after c'.kind v.matrix sign l) → Occupied c' t q l
         back t q l a =
-            let f = same.onto t (position_after v.matrix (image r translation) q) (moment_after v.matrix sign l) a in
-            let g = source w translation sign one two f.old_position f.old_moment in
+            let f = same.onto t (position_after v.matrix (image r translation) q) (moment_after c'.kind v.matrix sign l) a in
+            let g = source c.kind w translation sign one two f.old_position f.old_moment in
             let here : Occupied c t g.old_position g.old_moment = (k.crystal t g.old_position g.old_moment).1 (occupied_as c t (sym g.position_is) (sym g.moment_is) f.occupied) in
             occupied_as c' t
             (cancel_image v.matrix (image r g.old_position) q one_there (sum_cancel (image v.matrix (image r g.old_position)) (image v.matrix q) (image r translation) (position_is g.old_position ∙ ap (image r) g.position_is ∙ f.position_is)))
-            (cancel_moment v.matrix sign (image r g.old_moment) l two one_there (moment_is g.old_moment ∙ ap (image r) g.moment_is ∙ f.moment_is))
+            (cancel_moment c'.kind v.matrix sign (image (turn_matrix c.kind r) g.old_moment) l two one_there (moment_is g.old_moment ∙ ap (image (turn_matrix c.kind r)) g.moment_is ∙ f.moment_is))
             ((same.crystal t g.old_position g.old_moment).0 here)

@@ -67,8 +67,8 @@ firsts_length (a ∷ sites) =
 pub fewer_atoms : (c : Structure) (r : Matrix) → length (cell_in_basis c r).sites ≤ length c.sites
 unfolding cell_in_basis
 fewer_atoms c r =
-    let h = firsts_length (map (site_in_basis c.n r) c.sites) in
-    let e = length-map c.sites (site_in_basis c.n r) in
+    let h = firsts_length (map (site_in_basis c.n c.kind r) c.sites) in
+    let e = length-map c.sites (site_in_basis c.n c.kind r) in
     omega (arith, h, e)
 
 -- atoms within the cell and apart are one at each position
@@ -80,15 +80,15 @@ pub apart_of_cell : (c : Structure) → IsCell c → IsDistinct c.sites → IsAp
 apart_of_cell c cell d = record { within = cell.within; told = λ a b m k e. cell.one_atom_each a b m k (differs_at refl e (differs_itself c.n a.position)); distinct = d }
 
 -- each position is within the cell
-pub position_within : (c : Structure) (r : Matrix) → pos 0 <ℤ pos c.n → (a : Site) → IsMember a (first_at_each_position (map (site_in_basis c.n r) c.sites)) → IsWithinCell c.n a.position
+pub position_within : (c : Structure) (r : Matrix) → pos 0 <ℤ pos c.n → (a : Site) → IsMember a (first_at_each_position (map (site_in_basis c.n c.kind r) c.sites)) → IsWithinCell c.n a.position
 position_within c r some a m =
-    let f = mapped_from (site_in_basis c.n r) a c.sites (member_of_firsts a (map (site_in_basis c.n r) c.sites) m) in
+    let f = mapped_from (site_in_basis c.n c.kind r) a c.sites (member_of_firsts a (map (site_in_basis c.n c.kind r) c.sites) m) in
     subst (IsWithinCell c.n) (sym (ap (λ (s : Site). s.position) f.is)) (residue_within c.n (image r f.item.position) some)
 
 -- no two atoms of the cell in another basis are at one position
 pub cell_in_basis_one_atom_each : (c : Structure) (r : Matrix) → pos 0 <ℤ pos c.n → HasOneAtomEach (cell_in_basis c r)
 unfolding cell_in_basis
-cell_in_basis_one_atom_each c r some a b m k d = one_at_each a b (map (site_in_basis c.n r) c.sites) m k (translations_same c.n a.position b.position (position_within c r some a m) (position_within c r some b k) d)
+cell_in_basis_one_atom_each c r some a b m k d = one_at_each a b (map (site_in_basis c.n c.kind r) c.sites) m k (translations_same c.n a.position b.position (position_within c r some a m) (position_within c r some b k) d)
 
 -- n · fore is index · steps
 pub fore_steps : (n : ℕ) (in_it : Triple → Type 0) (r : Matrix) (b : IsBack n in_it r) → matrix_multiple (pos n) (adjugate r) ≡ matrix_multiple (determinant r) b.steps

@@ -119,16 +119,16 @@ fore_then index fore back base q f e =
 -- ---- the cell in another basis is a cell
 
 -- its atoms are of named species
-named_in_basis : (c : Structure) (r : Matrix) → IsCell c → (a : Site) → IsMember a (first_at_each_position (map (site_in_basis c.n r) c.sites)) → a.species < length c.names
+named_in_basis : (c : Structure) (r : Matrix) → IsCell c → (a : Site) → IsMember a (first_at_each_position (map (site_in_basis c.n c.kind r) c.sites)) → a.species < length c.names
 named_in_basis c r cell a m =
-    let f = mapped_from (site_in_basis c.n r) a c.sites (member_of_firsts a (map (site_in_basis c.n r) c.sites) m) in
+    let f = mapped_from (site_in_basis c.n c.kind r) a c.sites (member_of_firsts a (map (site_in_basis c.n c.kind r) c.sites) m) in
     subst (λ (s : ℕ). s < length c.names) (sym (ap (λ (x : Site). x.species) f.is)) (cell.named f.item f.of_list)
 
 -- the metric tensor is symmetric and positive, and no two atoms are at one position
 pub cell_in_basis_is_cell : (c : Structure) (r : Matrix) → IsCell c → pos 1 ≤ℤ determinant r → IsCell (cell_in_basis c r)
 unfolding cell_in_basis
 cell_in_basis_is_cell c r cell up =
-    let f = stands_for (site_in_basis c.n r cell.first) (map (site_in_basis c.n r) c.sites) (mapped_member (site_in_basis c.n r) cell.first c.sites cell.of_cell) in
+    let f = stands_for (site_in_basis c.n c.kind r cell.first) (map (site_in_basis c.n c.kind r) c.sites) (mapped_member (site_in_basis c.n c.kind r) cell.first c.sites cell.of_cell) in
     record {
       symmetric = symmetric_metric_in (adjugate r) c.metric cell.symmetric;
       positive = positive_adjugate r c.metric cell.symmetric cell.positive (at_least_one (determinant r) up);

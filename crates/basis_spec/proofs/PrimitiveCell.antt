@@ -7,6 +7,7 @@
 use Rattle.std.proofs.Common.{◌≡◌, ℕ, pos, negsuc, ◌<ℤ◌, map, refl, sym, ap, subst, ◌∙◌}
 use Rattle.crystal_spec.specs.Matrices.{Triple, Matrix, image, determinant, multiple, sum_of, identity}
 use Rattle.basis_spec.specs.Positions.{origin, DiffersByCells, residue}
+use Rattle.crystal_spec.specs.Moments.{turn_matrix}
 use Rattle.crystal_spec.specs.Crystals.{Site, Structure, Occupied}
 use Rattle.crystal_spec.specs.Increasing.{IsMember}
 use Rattle.basis_spec.specs.Translations.{IsTranslation, IsPrimitive, HasOnlyWholeCells}
@@ -19,6 +20,7 @@ use Rattle.basis_spec.proofs.Residues.{residue_away, residue_within, cells_withi
 use Rattle.basis_spec.proofs.FirstAtoms.{member_of_firsts, stands_for, mapped_from, mapped_member}
 use Rattle.basis_spec.proofs.OperationBases.{at_least_one, cells_translation, translation_here}
 use Rattle.crystal_spec.proofs.Images.{occupied_itself}
+use Rattle.crystal_spec.proofs.Moments.{turn-positive}
 
 -- ---- positions that differ by whole cells
 -- where p differs from q by whole cells, q does so from p
@@ -54,13 +56,13 @@ module _ (c : Structure) (r : Matrix) (some_cells : pos 0 <ℤ pos c.n) (b : IsB
     atom : Site
     of_cell : IsMember atom c.sites
     species : site.species ≡ atom.species
-    moment : site.moment ≡ image r atom.moment
+    moment : site.moment ≡ image (turn_matrix c.kind r) atom.moment
     position : DiffersByCells c.n site.position (image r atom.position)
 
   given : (site : Site) → IsMember site (cell_in_basis c r).sites → Given site
   unfolding cell_in_basis
   given site h =
-      let f = mapped_from (site_in_basis c.n r) site c.sites (member_of_firsts site (map (site_in_basis c.n r) c.sites) h) in
+      let f = mapped_from (site_in_basis c.n c.kind r) site c.sites (member_of_firsts site (map (site_in_basis c.n c.kind r) c.sites) h) in
       record {
         atom = f.item;
         of_cell = f.of_list;
@@ -78,7 +80,7 @@ module _ (c : Structure) (r : Matrix) (some_cells : pos 0 <ℤ pos c.n) (b : IsB
   taken : (a : Site) → IsMember a c.sites → Taken a
   unfolding cell_in_basis
   taken a h =
-      let f = stands_for (site_in_basis c.n r a) (map (site_in_basis c.n r) c.sites) (mapped_member (site_in_basis c.n r) a c.sites h) in
+      let f = stands_for (site_in_basis c.n c.kind r a) (map (site_in_basis c.n c.kind r) c.sites) (mapped_member (site_in_basis c.n c.kind r) a c.sites h) in
       record { site = f.site; of_primitive = f.of_list; position = differs_at refl (sym f.same_position) (residue_away c.n (image r a.position) some_cells) }
 
   n_is : (cell_in_basis c r).n ≡ c.n
@@ -108,10 +110,10 @@ module _ (c : Structure) (r : Matrix) (some_cells : pos 0 <ℤ pos c.n) (b : IsB
   r_above : pos 0 <ℤ determinant r
   r_above = at_least_one (determinant r) b.determinant_positive
 
-  there_back : (s : ℕ) (p m : Triple) → Occupied (cell_in_basis c r) s (image r p) (image r m) → Occupied c s p m
+  there_back : (s : ℕ) (p m : Triple) → Occupied (cell_in_basis c r) s (image r p) (image (turn_matrix c.kind r) m) → Occupied c s p m
   there_back s p m o =
-      let f = onto s (image r p) (image r m) o in
-      occupied_as c s (image_cancel r f.old_position p r_above f.position_is) (image_cancel r f.old_moment m r_above f.moment_is) f.occupied
+      let f = onto s (image r p) (image (turn_matrix c.kind r) m) o in
+      occupied_as c s (image_cancel r f.old_position p r_above f.position_is) (image_cancel (turn_matrix c.kind r) f.old_moment m (turn-positive c.kind r r_above) f.moment_is) f.occupied
 
   -- two atoms at one position there have one species and one moment
   alike : HasOneAtomEach c → (a a' : Site) → IsMember a c.sites → IsMember a' c.sites → DiffersByCells c.n (image r a'.position) (image r a.position) → (a'.species ≡ a.species) × (a'.moment ≡ a.moment)
@@ -123,7 +125,7 @@ module _ (c : Structure) (r : Matrix) (some_cells : pos 0 <ℤ pos c.n) (b : IsB
       let same = one a' o.site h' o.of_cell (differs_at (add_difference a'.position a.position) refl (site_away o)) in
       (ap (λ (x : Site). x.species) same ∙ o.same_species, ap (λ (x : Site). x.moment) same ∙ o.same_moment)
 
-  there : HasOneAtomEach c → (s : ℕ) (p m : Triple) → Occupied c s p m → Occupied (cell_in_basis c r) s (image r p) (image r m)
+  there : HasOneAtomEach c → (s : ℕ) (p m : Triple) → Occupied c s p m → Occupied (cell_in_basis c r) s (image r p) (image (turn_matrix c.kind r) m)
   there one s p m o =
       let f = taken o.site o.of_cell in
       let g = given f.site f.of_primitive in
@@ -133,7 +135,7 @@ module _ (c : Structure) (r : Matrix) (some_cells : pos 0 <ℤ pos c.n) (b : IsB
         site = f.site;
         of_cell = f.of_primitive;
         same_species = g.species ∙ same.0 ∙ o.same_species;
-        same_moment = g.moment ∙ ap (image r) (same.1 ∙ o.same_moment);
+        same_moment = g.moment ∙ ap (image (turn_matrix c.kind r)) (same.1 ∙ o.same_moment);
         cells = away.cells;
         same_position = away.is;
       }
@@ -146,6 +148,7 @@ module _ (c : Structure) (r : Matrix) (some_cells : pos 0 <ℤ pos c.n) (b : IsB
     names = refl;
     n = refl;
     k = refl;
+    kind = refl;
     scale = refl;
     metric = metric_in-metric_in_adjugate r c.metric;
     crystal = λ s p m. (there one s p m, there_back s p m);
@@ -155,8 +158,8 @@ module _ (c : Structure) (r : Matrix) (some_cells : pos 0 <ℤ pos c.n) (b : IsB
 -- in a basis of all translations none is left but whole cells
 pub no_translation_left : (c c' : Structure) (r : Matrix) → SameCrystal c c' r → IsBack c.n (IsTranslation c) r → (s : ℕ) (p m : Triple) → Occupied c s p m → HasOnlyWholeCells c'
 no_translation_left c c' r same b s p m o u is =
-    let there = moves c' u is s (image r p) (image r m) ((same.crystal s p m).0 o) in
-    let f = same.onto s (sum_of (image r p) u) (image r m) there in
+    let there = moves c' u is s (image r p) (image (turn_matrix c.kind r) m) ((same.crystal s p m).0 o) in
+    let f = same.onto s (sum_of (image r p) u) (image (turn_matrix c.kind r) m) there in
     let t = sum_of f.old_position (multiple (negsuc 0) p) in
     let e : image r t ≡ u = sum_cancel (image r t) u (image r p) (sym (image-sum_of r t p) ∙ ap (image r) (subtract_add f.old_position p) ∙ f.position_is ∙ sum_comm (image r p) u) in
     let d = (b.exact t).0 (translation_here c c' r same t (subst (IsTranslation c') (sym e) is)) in

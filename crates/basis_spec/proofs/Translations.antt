@@ -3,12 +3,14 @@
 -- A map that keeps the crystal takes translations to translations: each position and moment is the image of one, by the
 -- adjugate, since the determinant of an isometry is 1 or -1; and the image of p + t is that of p, moved by W t.
 use Rattle.std.proofs.Common.{◌≡◌, ℕ, ℤ, pos, negsuc, ◌*ℤ◌, refl, sym, ap, subst, ◌∙◌}
+use Rattle.crystal_spec.specs.declared.MomentKind.{MomentKind}
 use Rattle.crystal_spec.specs.Matrices.{Triple, Matrix, image, determinant, adjugate, multiple, sum_of, identity}
 use Rattle.crystal_spec.specs.Crystals.{Structure, Occupied, Keeps, position_after, moment_after, IsPositive}
 use Rattle.basis_spec.specs.Positions.{DiffersByCells}
 use Rattle.basis_spec.specs.Translations.{IsTranslation}
 use Rattle.basis_spec.proofs.MatrixLaws.{image-identity, image-multiple, image-sum_of, image-image_adjugate, multiple-multiple, multiple-sum_of, sum_assoc, sum_swap, subtract_add, metric_in-identity}
-use Rattle.crystal_spec.proofs.Isometries.{axial_squared, determinant-isometry, multiple-one}
+use Rattle.crystal_spec.proofs.Isometries.{determinant-isometry, multiple-one}
+use Rattle.crystal_spec.proofs.Moments.{moment_after-identity, moment_source}
 
 -- occupied, at equal places and moments
 pub occupied_as : (c : Structure) (s : ℕ) {p q m l : Triple} → p ≡ q → m ≡ l → Occupied c s p m → Occupied c s q l
@@ -38,47 +40,43 @@ position_translated t p = ap (λ v. sum_of v t) (image-identity p)
 pub determinant-identity : determinant identity ≡ pos 1
 determinant-identity = refl
 
--- a translation leaves moments
-pub moment_translated : (m : Triple) → moment_after identity (pos 1) m ≡ m
-moment_translated m = ap (λ h. multiple (pos 1 *ℤ h) (image identity m)) determinant-identity ∙ ap (multiple (pos 1)) (image-identity m) ∙ multiple-one m
-
 -- a translation of the crystal moves atoms to atoms
 pub moves : (c : Structure) (t : Triple) → IsTranslation c t → (s : ℕ) (p m : Triple) → Occupied c s p m → Occupied c s (sum_of p t) m
-moves c t k s p m o = occupied_as c s (position_translated t p) (moment_translated m) ((k.crystal s p m).0 o)
+moves c t k s p m o = occupied_as c s (position_translated t p) (moment_after-identity c.kind m) ((k.crystal s p m).0 o)
 
 -- and what it moves to atoms are atoms
 pub moves_back : (c : Structure) (t : Triple) → IsTranslation c t → (s : ℕ) (p m : Triple) → Occupied c s (sum_of p t) m → Occupied c s p m
-moves_back c t k s p m o = (k.crystal s p m).1 (occupied_as c s (sym (position_translated t p)) (sym (moment_translated m)) o)
+moves_back c t k s p m o = (k.crystal s p m).1 (occupied_as c s (sym (position_translated t p)) (sym (moment_after-identity c.kind m)) o)
 
 -- a translation, from what it does to the crystal
 pub is_translation : (c : Structure) (t : Triple) → ((s : ℕ) (p m : Triple) → Occupied c s p m → Occupied c s (sum_of p t) m) → ((s : ℕ) (p m : Triple) → Occupied c s (sum_of p t) m → Occupied c s p m) → IsTranslation c t
 is_translation c t f g = record {
   metric = metric_in-identity c.metric;
   crystal = λ s p m. (
-    (λ o. occupied_as c s (sym (position_translated t p)) (sym (moment_translated m)) (f s p m o)),
-    (λ o. g s p m (occupied_as c s (position_translated t p) (moment_translated m) o)),
+    (λ o. occupied_as c s (sym (position_translated t p)) (sym (moment_after-identity c.kind m)) (f s p m o)),
+    (λ o. g s p m (occupied_as c s (position_translated t p) (moment_after-identity c.kind m) o)),
   );
 }
 
 -- ---- each position and moment is the image of one
-pub record Source (w : Matrix) (translation : Triple) (sign : ℤ) (position moment : Triple) : Type 0 where
+pub record Source (kind : MomentKind) (w : Matrix) (translation : Triple) (sign : ℤ) (position moment : Triple) : Type 0 where
   pub old_position : Triple
   pub old_moment : Triple
   pub position_is : position_after w translation old_position ≡ position
-  pub moment_is : moment_after w sign old_moment ≡ moment
+  pub moment_is : moment_after kind w sign old_moment ≡ moment
 
 -- each position and moment is the image of one, where determinant and sign have the square 1
-pub source : (w : Matrix) (translation : Triple) (sign : ℤ) → determinant w *ℤ determinant w ≡ pos 1 → sign *ℤ sign ≡ pos 1 → (q l : Triple) → Source w translation sign q l
-source w t sign one two q l =
+pub source : (kind : MomentKind) (w : Matrix) (translation : Triple) (sign : ℤ) → determinant w *ℤ determinant w ≡ pos 1 → sign *ℤ sign ≡ pos 1 → (q l : Triple) → Source kind w translation sign q l
+source kind w t sign one two q l =
     let h = determinant w in
     let a = adjugate w in
     let u = sum_of q (multiple (negsuc 0) t) in
+    let before = moment_source kind w sign two one l in
     record {
       old_position = multiple h (image a u);
-      old_moment = multiple sign (image a l);
+      old_moment = before.0;
       position_is = ap (λ v. sum_of v t) (image-multiple w h (image a u) ∙ ap (multiple h) (image-image_adjugate w u) ∙ multiple-multiple h h u ∙ ap (λ b. multiple b u) one ∙ multiple-one u) ∙ subtract_add q t;
-      moment_is = ap (multiple (sign *ℤ h)) (image-multiple w sign (image a l) ∙ ap (multiple sign) (image-image_adjugate w l) ∙ multiple-multiple sign h l) ∙ multiple-multiple (sign *ℤ h) (sign *ℤ h) l
-          ∙ ap (λ b. multiple b l) (axial_squared sign h two one) ∙ multiple-one l;
+      moment_is = before.1;
     }
 
 -- W(p + t) + w is Wt on from Wp + w
@@ -91,13 +89,13 @@ translation_carried c w translation sign p two k t is = is_translation c (image 
   where
     forth : (s : ℕ) (q l : Triple) → Occupied c s q l → Occupied c s (sum_of q (image w t)) l
     forth s q l o =
-        let f = source w translation sign (determinant-isometry c.metric w p k.metric) two q l in
+        let f = source c.kind w translation sign (determinant-isometry c.metric w p k.metric) two q l in
         let before = (k.crystal s f.old_position f.old_moment).1 (occupied_as c s (sym f.position_is) (sym f.moment_is) o) in
         occupied_as c s (position_after-sum_of w translation f.old_position t ∙ ap (λ v. sum_of v (image w t)) f.position_is) f.moment_is
         ((k.crystal s (sum_of f.old_position t) f.old_moment).0 (moves c t is s f.old_position f.old_moment before))
 
     back : (s : ℕ) (q l : Triple) → Occupied c s (sum_of q (image w t)) l → Occupied c s q l
     back s q l o =
-        let f = source w translation sign (determinant-isometry c.metric w p k.metric) two q l in
+        let f = source c.kind w translation sign (determinant-isometry c.metric w p k.metric) two q l in
         let after = (k.crystal s (sum_of f.old_position t) f.old_moment).1 (occupied_as c s (sym (position_after-sum_of w translation f.old_position t ∙ ap (λ v. sum_of v (image w t)) f.position_is)) (sym f.moment_is) o) in
         occupied_as c s f.position_is f.moment_is ((k.crystal s f.old_position f.old_moment).0 (moves_back c t is s f.old_position f.old_moment after))

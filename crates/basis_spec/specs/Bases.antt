@@ -6,12 +6,14 @@
 --   SameCrystal c c' r             c' is the crystal of c in the basis to which R takes coordinates
 --   IsBack n in_it r               R takes coordinates to those in a basis of the lattice of which in_it tells
 --   first_at_each_position sites   in order, each atom left out where its position came before
---   site_in_basis n r a            the atom a in the other basis, within one cell
+--   site_in_basis n kind r a       the atom a, with a moment of this kind, in the other basis, within one cell
 --   cell_in_basis c r              the cell of c in the other basis
 --   IsPrimitiveIn c r              that cell is the same crystal, and primitive
 use Rattle.std.specs.Prelude.{◌≡◌, ◌↔◌, ℕ, pos, ◌*ℤ◌, ◌≤ℤ◌, ◌<ℤ◌, ◌<◌, List, [], ◌∷◌, map, length, Bool, true, false, ◌&&◌}
 use Rattle.std.specs.Ordering.{int_eq}
+use Rattle.crystal_spec.specs.declared.MomentKind.{MomentKind}
 use Rattle.crystal_spec.specs.Matrices.{Triple, Matrix, product, image, determinant, adjugate, transposed, identity}
+use Rattle.crystal_spec.specs.Moments.{turn_matrix}
 use Rattle.crystal_spec.specs.Crystals.{Site, Structure, IsPositive, Occupied}
 use Rattle.crystal_spec.specs.Increasing.{IsMember}
 use Rattle.crystal_spec.specs.Operations.{IsWithinCell}
@@ -40,20 +42,21 @@ pub record ComesFrom (c : Structure) (r : Matrix) (species : ℕ) (position mome
   pub old_position : Triple
   pub old_moment : Triple
   pub position_is : image r old_position ≡ position
-  pub moment_is : image r old_moment ≡ moment
+  pub moment_is : image (turn_matrix c.kind r) old_moment ≡ moment
   pub occupied : Occupied c species old_position old_moment
 
--- R has a positive determinant. The names and units are the same; the metric tensor, with its scale, is the same in the
--- other basis; an atom is at a position exactly where one of its species is at the image, with the image of its moment;
--- and each atom of the other crystal is such an image.
+-- R has a positive determinant. The names, the units and the kind of moments are the same; the metric tensor, with its
+-- scale, is the same in the other basis; an atom is at a position exactly where one of its species is at the image, with
+-- the image of its moment, which R turns if it is a vector; and each atom of the other crystal is such an image.
 pub record SameCrystal (c c' : Structure) (r : Matrix) : Type 0 where
   pub determinant_positive : pos 1 ≤ℤ determinant r
   pub names : c'.names ≡ c.names
   pub n : c'.n ≡ c.n
   pub k : c'.k ≡ c.k
+  pub kind : c'.kind ≡ c.kind
   pub scale : c'.scale ≡ (determinant r *ℤ determinant r) *ℤ c.scale
   pub metric : metric_in r c'.metric ≡ matrix_multiple (determinant r *ℤ determinant r) c.metric
-  pub crystal : (species : ℕ) (position moment : Triple) → Occupied c species position moment ↔ Occupied c' species (image r position) (image r moment)
+  pub crystal : (species : ℕ) (position moment : Triple) → Occupied c species position moment ↔ Occupied c' species (image r position) (image (turn_matrix c.kind r) moment)
   pub onto : (species : ℕ) (position moment : Triple) → Occupied c' species position moment → ComesFrom c r species position moment
 
 -- R has a positive determinant; R times the matrix of the basis vectors, in units of 1/n, is n times the identity; and the
@@ -79,8 +82,8 @@ first_at_each_position [] = []
 first_at_each_position (a ∷ sites) = a ∷ without_position a.position (first_at_each_position sites)
 
 -- the atom a in the basis to which R takes coordinates, brought into the cell
-abbrev pub site_in_basis : ℕ → Matrix → Site → Site
-site_in_basis n r a = record { species = a.species; position = residue n (image r a.position); moment = image r a.moment }
+abbrev pub site_in_basis : ℕ → MomentKind → Matrix → Site → Site
+site_in_basis n kind r a = record { species = a.species; position = residue n (image r a.position); moment = image (turn_matrix kind r) a.moment }
 
 -- The cell in the basis to which R takes coordinates: Prim(C, R), where that basis is one of all translations. adj(R) is
 -- det(R) · P, so the metric tensor and its scale are those of Pᵀ G P, each times det(R)².
@@ -91,7 +94,8 @@ cell_in_basis c r = record {
   metric = metric_in (adjugate r) c.metric;
   n = c.n;
   k = c.k;
-  sites = first_at_each_position (map (site_in_basis c.n r) c.sites);
+  kind = c.kind;
+  sites = first_at_each_position (map (site_in_basis c.n c.kind r) c.sites);
 }
 
 -- the cell in that basis is the same crystal, and primitive

@@ -1,5 +1,5 @@
-//! Pure translations of a crystal, step bases of their lattice, the same crystal in another basis, and operations carried
-//! to another basis.
+//! Pure translations of a crystal, step bases of their lattice, the same crystal in another basis, maps of one crystal onto
+//! another, and operations carried to another basis.
 //!
 //! Positions and translations are integers in units of 1/n along the axes, of any size here. A change of basis P has the
 //! new basis vectors as columns; R is Q = P⁻¹, which takes coordinates to those in the new basis. It is of integers, since

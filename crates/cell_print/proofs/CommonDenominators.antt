@@ -37,7 +37,7 @@ grown-least : (d start : ℕ) (zs : List ℤ) → 0 < d → start ∣ d → grow
 grown-least d start [] some h = h
 grown-least d start (z ∷ zs) some h = grown-least d (lcm start (part d z)) zs some (lcm_least start (part d z) d (parts-positive (unsigned_abs z) d some) h (part-divides d z))
 
-one-divides : (d : ℕ) → 1 ∣ d
+pub one-divides : (d : ℕ) → 1 ∣ d
 one-divides d = let same : 1 * d ≡ d = omega arith in subst (λ n. 1 ∣ n) same (dvd-mul_right 1 d)
 
 -- The common denominator divides d.
@@ -58,7 +58,7 @@ grown-parts d start (z ∷ zs) = (dvd_trans (part d z) (lcm-multiple_right start
 
 -- ---- what is left of d divides each number
 
-cancel : (p a b : ℕ) → 0 < p → p * a ≡ p * b → a ≡ b
+pub cancel : (p a b : ℕ) → 0 < p → p * a ≡ p * b → a ≡ b
 cancel p a b h e = sym (mul-div_cancel_left a h) ∙ ap (λ (m : ℕ). m / p) e ∙ mul-div_cancel_left b h
 
 products : (q m t g whole d : ℕ) → t * q ≡ whole → q * g ≡ d → m * whole ≡ d → q * (m * t) ≡ q * g
@@ -75,7 +75,7 @@ cofactor-divides d whole m z some e h =
     let same : m * t ≡ gcd a d = cancel q (m * t) (gcd a d) (parts-positive a d some) (products q m t (gcd a d) whole d (div-mul_cancel q h) (div-mul_cancel (gcd a d) is.1) e) in
     dvd_trans m (subst (λ n. m ∣ n) same (dvd-mul_right m t)) is.0
 
-abbrev AllDivisible : ℕ → List ℤ → Type 0
+abbrev pub AllDivisible : ℕ → List ℤ → Type 0
 AllDivisible m [] = Unit {0}
 AllDivisible m (z ∷ zs) = (m ∣ unsigned_abs z) × AllDivisible m zs
 

@@ -4,6 +4,7 @@ use Rattle.std.specs.Prelude.{codes}
 use Rattle.std.proofs.lemmas.Int.{ints}
 use Rattle.std.proofs.lemmas.Fmt.{decimal_digit}
 use Rattle.numbers.specs.Gcd.{gcd}
+use Rattle.crystal_spec.specs.Moments.{axial_vectors}
 use Rattle.crystal_spec.specs.Crystals.{Structure}
 use Rattle.cell_print.specs.CellFileText.{number_text}
 use Rattle.cell_print.specs.Printable.{IsPrintable}
@@ -26,6 +27,7 @@ oblique = record {
   metric = record { a11 = pos 60; a12 = negsuc 29; a13 = pos 0; a21 = negsuc 29; a22 = pos 60; a23 = negsuc 3; a31 = pos 0; a32 = negsuc 3; a33 = pos 90 };
   n = 2;
   k = 2;
+  kind = axial_vectors;
   sites =
       record { species = 0; position = record { x = pos 0; y = pos 0; z = pos 0 }; moment = record { x = pos 0; y = pos 0; z = pos 1 } }
       ∷ record { species = 1; position = record { x = pos 1; y = pos 0; z = pos 0 }; moment = record { x = pos 0; y = pos 0; z = pos 0 } }
@@ -35,6 +37,7 @@ oblique = record {
 oblique_is_printable : IsPrintable oblique
 unfolding gcd oblique
 oblique_is_printable = record {
+  kind = refl;
   least_scale = refl;
   least_n = refl;
   least_k = refl;

@@ -2,6 +2,8 @@ pub mod TextLemmas
 pub mod NumberWords
 pub mod TextCuts
 pub mod CommonDenominators
+pub mod LeastUnits
+pub mod SpelledPrintable
 pub mod NamesRead
 pub mod PrintedLines
 pub mod ReadLines

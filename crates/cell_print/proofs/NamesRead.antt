@@ -6,10 +6,10 @@ use Rattle.std.proofs.lemmas.Bool.{eq-eqb, or_left, or_right, or_from, false_fro
 use Rattle.std.proofs.Math.Seq.{take-suc, take-length}
 use Rattle.crystal_spec.specs.Increasing.{IsMember, IsDistinct}
 use Rattle.crystal_spec.specs.Crystals.{Site}
+use Rattle.crystal.specs.Numbering.{AreByFirstUse}
 use Rattle.cell_text.specs.Lines.{same_word}
 use Rattle.cell_text.specs.CellFile.{with_name, number_of}
 use Rattle.cell_text.proofs.NameLemmas.{with-old, with-new}
-use Rattle.cell_print.specs.Printable.{AreByFirstUse}
 
 same_self : (w : List ℕ) → same_word w w ≡ true
 same_self [] = refl

@@ -6,7 +6,9 @@ use Rattle.std.proofs.lemmas.Bool.{and_parts}
 use Rattle.std.proofs.lemmas.Int.{ints}
 use Rattle.numbers.specs.Residue.{residue}
 use Rattle.numbers.proofs.ResidueRing.{residue_below}
+use Rattle.crystal_spec.specs.declared.MomentKind.{MomentKind}
 use Rattle.crystal_spec.specs.Matrices.{Triple}
+use Rattle.crystal_spec.specs.Moments.{axial_vectors}
 use Rattle.crystal_spec.specs.Crystals.{Site, Structure}
 use Rattle.crystal.specs.Names.{is_name}
 use Rattle.crystal.specs.Occupants.{NoneAt}
@@ -68,7 +70,7 @@ name_at [] i e h = absurd (omega arith)
 name_at (x ∷ xs) zero e h = (and_parts (is_name x) (list_all is_name xs) e).0
 name_at (x ∷ xs) (suc i) e h = name_at xs i (and_parts (is_name x) (list_all is_name xs) e).1 (omega arith)
 
-atoms-plain : (c : Structure) (sites : List Site) → c.n ≤ 10 ^ 6 → list_all is_name c.names ≡ true → AreSitesOf (length c.names) c.n sites → AreAtMost (10 ^ 9) (all_moments sites) → ArePlain c sites
+atoms-plain : (c : Structure) (sites : List Site) → c.n ≤ 10 ^ 6 → list_all is_name c.names ≡ true → AreSitesOf (length c.names) c.n c.kind sites → AreAtMost (10 ^ 9) (all_moments sites) → ArePlain c sites
 atoms-plain c [] small names h most = tt
 atoms-plain c (s ∷ sites) small names h most =
     let p = h.0.within in (
@@ -86,7 +88,7 @@ not_there : (p : Triple) (before : List Site) (s : Site) (later : List Site) →
 not_there p [] s later h = h.0
 not_there p (a ∷ before) s later h = not_there p before s later h.1
 
-elsewhere : (c : Structure) (before : List Site) (s : Site) (later : List Site) → AreSitesOf (length c.names) c.n (before ++ s ∷ later) → AreApart (before ++ s ∷ later) → IsElsewhere c before s
+elsewhere : (c : Structure) (before : List Site) (s : Site) (later : List Site) → AreSitesOf (length c.names) c.n c.kind (before ++ s ∷ later) → AreApart (before ++ s ∷ later) → IsElsewhere c before s
 elsewhere c [] s later h apart = tt
 elsewhere c (a ∷ before) s later h apart = ((h.0.within, λ same. not_there a.position before s later apart.0 (sym same)), elsewhere c before s later h.1 apart.1)
 
@@ -94,14 +96,14 @@ moments-front : (before : List Site) (s : Site) (later : List Site) → AreAtMos
 moments-front [] s later h = (h.0, (h.1.0, (h.1.1.0, tt)))
 moments-front (a ∷ before) s later h = (h.0, (h.1.0, (h.1.1.0, moments-front before s later h.1.1.1)))
 
-all_follow : (c : Structure) (all before later : List Site) → before ++ later ≡ all → length all ≤ 512 → AreSitesOf (length c.names) c.n all → AreApart all → AreAtMost (10 ^ 9) (all_moments all) → AreSitesOf (length c.names) c.n later → ArePlain c later → CanFollowAll c before later
+all_follow : (c : Structure) (all before later : List Site) → before ++ later ≡ all → length all ≤ 512 → AreSitesOf (length c.names) c.n c.kind all → AreApart all → AreAtMost (10 ^ 9) (all_moments all) → AreSitesOf (length c.names) c.n c.kind later → ArePlain c later → CanFollowAll c before later
 all_follow c all before [] e few sites apart most here plain = tt
 all_follow c all before (s ∷ later) e few sites apart most here plain = (
   record {
     fewer = omega (arith, few, ap length e, length-append before (s ∷ later));
     plain = plain.0;
     within = here.0.within;
-    away = elsewhere c before s later (subst (AreSitesOf (length c.names) c.n) (sym e) sites) (subst AreApart (sym e) apart);
+    away = elsewhere c before s later (subst (AreSitesOf (length c.names) c.n c.kind) (sym e) sites) (subst AreApart (sym e) apart);
     moments = moments-front before s later (subst (λ (xs : List Site). AreAtMost (10 ^ 9) (all_moments xs)) (sym e) most);
   },
   all_follow c all (before ++ s ∷ []) later (append_assoc before (s ∷ []) later ∙ e) few sites apart most here.1 plain.1,
@@ -113,19 +115,19 @@ names-fold : (c : Structure) (so_far : List (List ℕ)) (sites : List Site) → 
 names-fold c so_far [] = refl
 names-fold c so_far (s ∷ sites) = names-fold c (with_name so_far (name_of c s)) sites
 
-below_from : (total n : ℕ) (sites : List Site) → AreSitesOf total n sites → AreBelow total sites
-below_from total n [] h = tt
-below_from total n (s ∷ sites) h = (h.0.named, below_from total n sites h.1)
+below_from : (total n : ℕ) (kind : MomentKind) (sites : List Site) → AreSitesOf total n kind sites → AreBelow total sites
+below_from total n kind [] h = tt
+below_from total n kind (s ∷ sites) h = (h.0.named, below_from total n kind sites h.1)
 
 names-whole : (c : Structure) → IsCell c → IsPrintable c → names_of (map (entry c) c.sites) ≡ c.names
 unfolding names_of
-names-whole c cell printable = names-fold c [] c.sites ∙ names-by_first_use c.names 0 c.sites cell.names_differ (below_from (length c.names) c.n c.sites cell.sites) printable.species
+names-whole c cell printable = names-fold c [] c.sites ∙ names-by_first_use c.names 0 c.sites cell.names_differ (below_from (length c.names) c.n c.kind c.sites cell.sites) printable.species
 
 part-reduced : (n : ℕ) (z : ℤ) → 0 < n → (pos 0 ≤ℤ z) × (z <ℤ pos n) → part_of n (reduced n z) ≡ z
 part-reduced n (pos a) some h = ap (residue n) (scaled-reduced n (pos a) some) ∙ residue_below n a (omega (arith, ints, h.1))
 part-reduced n (negsuc a) some h = absurd (omega (arith, ints, h.0))
 
-site-whole : (c : Structure) (s : Site) → IsCell c → IsSiteOf (length c.names) c.n s → site_of c.names c.n c.k (entry c s) ≡ s
+site-whole : (c : Structure) (s : Site) → IsCell c → IsSiteOf (length c.names) c.n c.kind s → site_of c.names c.n c.k (entry c s) ≡ s
 site-whole c s cell h =
     let number : number_of c.names (name_of c s) ≡ s.species = number-of_name c.names s.species cell.names_differ h.named in
     let x : part_of c.n (reduced c.n s.position.x) ≡ s.position.x = part-reduced c.n s.position.x cell.n_at_least h.within.x in
@@ -136,7 +138,7 @@ site-whole c s cell h =
     let mc : scaled c.k (reduced c.k s.moment.z) ≡ s.moment.z = scaled-reduced c.k s.moment.z cell.k_at_least in
     λ i. record { species = number i; position = record { x = x i; y = y i; z = z i }; moment = record { x = ma i; y = mb i; z = mc i } }
 
-sites-whole : (c : Structure) (sites : List Site) → IsCell c → AreSitesOf (length c.names) c.n sites → map (site_of c.names c.n c.k) (map (entry c) sites) ≡ sites
+sites-whole : (c : Structure) (sites : List Site) → IsCell c → AreSitesOf (length c.names) c.n c.kind sites → map (site_of c.names c.n c.k) (map (entry c) sites) ≡ sites
 sites-whole c [] cell h = refl
 sites-whole c (s ∷ sites) cell h =
     ap (λ (t : Site). t ∷ map (site_of c.names c.n c.k) (map (entry c) sites)) (site-whole c s cell h.0) ∙ ap (λ (ts : List Site). s ∷ ts) (sites-whole c sites cell h.1)
@@ -153,9 +155,10 @@ cell_with-whole c cell printable =
     ∙ ap (λ (m : ℕ). made (pos (unsigned_abs c.scale)) c.names c.n m (map (site_of c.names c.n m) (map (entry c) c.sites))) k
     ∙ ap (λ (z : ℤ). made z c.names c.n c.k (map (site_of c.names c.n c.k) (map (entry c) c.sites))) scale
     ∙ ap (made c.scale c.names c.n c.k) (sites-whole c c.sites cell cell.sites)
+    ∙ ap (λ (kind : MomentKind). record c { kind = kind }) (sym printable.kind)
   where
     made : ℤ → List (List ℕ) → ℕ → ℕ → List Site → Structure
-    made scale names n k sites = record { names = names; scale = scale; metric = c.metric; n = n; k = k; sites = sites }
+    made scale names n k sites = record { names = names; scale = scale; metric = c.metric; n = n; k = k; kind = axial_vectors; sites = sites }
 
 -- ---- the text spells the cell
 

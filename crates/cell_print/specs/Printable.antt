@@ -3,14 +3,15 @@
 --   all_positions sites        all coordinates of the positions
 --   all_moments sites          all components of the moments
 --   AreAtMost b zs             each has at most this size
---   AreByFirstUse m t sites    behind m species, each further one has the next number, and there are t in the end
 --   IsPrintable c              the cell is one that a cell file spells
 -- Our own.
-use Rattle.std.specs.Prelude.{◌≡◌, ◌⊎◌, ℕ, suc, ℤ, pos, ◌^◌, ◌<◌, ◌≤◌, ◌≤ℤ◌, true, List, [], ◌∷◌, length, unsigned_abs}
+use Rattle.std.specs.Prelude.{◌≡◌, ℕ, ℤ, pos, ◌^◌, ◌≤◌, ◌≤ℤ◌, true, List, [], ◌∷◌, length, unsigned_abs}
 use Rattle.std.specs.List.{fold, flat_map, list_all}
 use Rattle.numbers.specs.Gcd.{gcd}
+use Rattle.crystal_spec.specs.Moments.{axial_vectors}
 use Rattle.crystal_spec.specs.Crystals.{Site, Structure}
 use Rattle.crystal.specs.Names.{is_name}
+use Rattle.crystal.specs.Numbering.{AreByFirstUse}
 use Rattle.cell_print.specs.CellFileText.{scalar_products, coordinates}
 
 -- the greatest common divisor of d and these
@@ -30,14 +31,10 @@ abbrev pub AreAtMost : ℕ → List ℤ → Type 0
 AreAtMost bound [] = Unit {0}
 AreAtMost bound (z ∷ zs) = (unsigned_abs z ≤ bound) × AreAtMost bound zs
 
--- An atom has a species that an earlier one has, or the next number.
-abbrev pub AreByFirstUse : ℕ → ℕ → List Site → Type 0
-AreByFirstUse used total [] = used ≡ total
-AreByFirstUse used total (s ∷ sites) = ((s.species < used) × AreByFirstUse used total sites) ⊎ ((s.species ≡ used) × AreByFirstUse (suc used) total sites)
-
--- The units are the least ones, sizes are within the limits of the cell file, names have the form of names, and species
--- are numbered in the order of their first use, with no name that no atom has.
+-- Moments are axial vectors, the units are the least ones, sizes are within the limits of the cell file, names have the form
+-- of names, and species are numbered in the order of their first use, with no name that no atom has.
 pub record IsPrintable (c : Structure) : Type 0 where
+  pub kind : c.kind ≡ axial_vectors
   pub least_scale : divisor_with (unsigned_abs c.scale) (scalar_products c.metric) ≡ 1
   pub least_n : divisor_with c.n (all_positions c.sites) ≡ 1
   pub least_k : divisor_with c.k (all_moments c.sites) ≡ 1

@@ -1,5 +1,6 @@
 // The lines of a cell file.
-ghost use Rattle.std.specs.Prelude.{◌≡◌, ◌++◌, IfOk, OnOk, length, ◌<◌, ◌≤◌};
+ghost use Rattle.std.specs.Prelude.{◌≡◌, ◌++◌, List, ℕ, IfOk, OnOk, length, ◌<◌, ◌≤◌};
+ghost use Rattle.crystal_spec.specs.Crystals.{Structure};
 ghost use Rattle.crystal.specs.Views.{metric_of, site_of, triple_of};
 ghost use Rattle.cell_text.specs.CellFile.{Spells};
 ghost use Rattle.cell_print.specs.Printable.{IsPrintable};
@@ -127,8 +128,8 @@ pub fn push_cell(alloc: Global, out: &mut Bytes, cell: &Cell) -> Result<(), Allo
 
 /// The cell file of a cell.
 ///
-/// Each number is in lowest terms, and a moment of 0 0 0 is left out. A cell whose units are the least ones, within the
-/// limits of the cell file, is the one that the text spells. Refuses for want of memory alone.
+/// Each number is in lowest terms, and a moment of 0 0 0 is left out. A cell of axial vectors whose units are the least ones,
+/// within the limits of the cell file, is the one that the text spells. Refuses for want of memory alone.
 pub fn print_cell(alloc: Global, cell: &Cell) -> Result<Bytes, AllocError>
     ensures value { IfOk result (λ text. text ≡ cell_file_text cell.now) }
     ensures spelled { IfOk result (λ text. IsPrintable cell.now → Spells text cell.now) }
@@ -138,3 +139,8 @@ pub fn print_cell(alloc: Global, cell: &Cell) -> Result<Bytes, AllocError>
     push_cell(alloc, &mut out, cell)?;
     Ok(out)
 }
+
+/// Each cell that a text spells is printable, so a cell that is read, printed and read again is the same cell.
+pub fn spelled_is_printable()
+    ensures { (text : List ℕ) (c : Structure) → Spells text c → IsPrintable c }
+{}

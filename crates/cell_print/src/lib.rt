@@ -7,7 +7,7 @@
 mod cell_file;
 mod fractions;
 
-pub use cell_file::{print_cell, push_cell};
+pub use cell_file::{print_cell, push_cell, spelled_is_printable};
 
 #[cfg(test)]
 mod tests;

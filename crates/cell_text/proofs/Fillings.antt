@@ -3,6 +3,7 @@ use Rattle.std.proofs.Common.{◌≡◌, ℕ, zero, suc, ◌+◌, ◌<◌, ◌�
 use Rattle.std.specs.Prelude.{pos}
 use Rattle.std.proofs.lemmas.List.{map-append, length-map, take_rest}
 use Rattle.crystal_spec.specs.Increasing.{IsMember}
+use Rattle.crystal_spec.specs.Moments.{axial_vectors}
 use Rattle.crystal_spec.specs.Crystals.{Site, Structure}
 use Rattle.cell_text.specs.declared.atom_line.AtomLine.{AtomLine as CodeAtom}
 use Rattle.crystal.specs.Occupants.{NoneAt}
@@ -52,7 +53,7 @@ site-final n k held b later = ap (λ (i : ℕ). at i) (sym (number-final held b 
     at i = record { species = i; position = position_of n b; moment = moment_of k b }
 
 abbrev made : ScaledMetric → ℕ → ℕ → List (List ℕ) → List Site → Structure
-made metric n k names sites = record { names = names; scale = pos metric.scale; metric = metric.entries; n = n; k = k; sites = sites }
+made metric n k names sites = record { names = names; scale = pos metric.scale; metric = metric.entries; n = n; k = k; kind = axial_vectors; sites = sites }
 
 with_two : (metric : ScaledMetric) (n k : ℕ) (names ns : List (List ℕ)) (sites ss : List Site) → names ≡ ns → sites ≡ ss → made metric n k names sites ≡ made metric n k ns ss
 with_two metric n k names ns sites ss e f = ap (λ (xs : List (List ℕ)). made metric n k xs sites) e ∙ ap (made metric n k ns) f

@@ -4,6 +4,7 @@ use Rattle.std.specs.List.{flat_map}
 use Rattle.std.proofs.Common.{refl}
 use Rattle.numbers.specs.Gcd.{gcd, lcm}
 use Rattle.numbers.specs.Residue.{residue}
+use Rattle.crystal_spec.specs.Moments.{axial_vectors}
 use Rattle.cell_text.specs.declared.fault.CellFault.TheVariants.{NotMagcell, BadByte, BadLine, BadNumber, NumberRange, ZeroDenominator, MetricMissing, MetricRange, NotPositive, PositionRange, MomentRange, TooManyAtoms, NoAtom, SamePlace, NoEnd, AfterEnd}
 use Rattle.cell_text.specs.Text.{lines}
 use Rattle.cell_text.specs.Numbers.{number_fault, number_value}
@@ -140,11 +141,11 @@ order : cell_fault (text_of (codes "magcell 1" ∷ []) ++ codes "metric 1/0 x 1 
 unfolding cell_fault judged later_fault contents is_skipped is_heading has_bad_byte is_metric_line is_atom_line is_end_line number_words is_metric_in_range is_positive are_positions_in_range are_moments_in_range positions moments same_place gcd lcm number_fault number_value
 order = refl
 
-antiferromagnet : cell_of (lines (text_of (codes "magcell 1" ∷ codes "metric 1 1 4 0 0 0" ∷ codes "atom A 0 0 0 0 0 1" ∷ codes "atom A 0 0 1/2 0 0 -1" ∷ codes "end" ∷ []))) ≡ record { names = (65 ∷ []) ∷ []; scale = pos 1; metric = record { a11 = pos 1; a12 = pos 0; a13 = pos 0; a21 = pos 0; a22 = pos 1; a23 = pos 0; a31 = pos 0; a32 = pos 0; a33 = pos 4 }; n = 2; k = 1; sites = record { species = 0; position = record { x = pos 0; y = pos 0; z = pos 0 }; moment = record { x = pos 0; y = pos 0; z = pos 1 } } ∷ record { species = 0; position = record { x = pos 0; y = pos 0; z = pos 1 }; moment = record { x = pos 0; y = pos 0; z = negsuc 0 } } ∷ [] }
+antiferromagnet : cell_of (lines (text_of (codes "magcell 1" ∷ codes "metric 1 1 4 0 0 0" ∷ codes "atom A 0 0 0 0 0 1" ∷ codes "atom A 0 0 1/2 0 0 -1" ∷ codes "end" ∷ []))) ≡ record { names = (65 ∷ []) ∷ []; scale = pos 1; metric = record { a11 = pos 1; a12 = pos 0; a13 = pos 0; a21 = pos 0; a22 = pos 1; a23 = pos 0; a31 = pos 0; a32 = pos 0; a33 = pos 4 }; n = 2; k = 1; kind = axial_vectors; sites = record { species = 0; position = record { x = pos 0; y = pos 0; z = pos 0 }; moment = record { x = pos 0; y = pos 0; z = pos 1 } } ∷ record { species = 0; position = record { x = pos 0; y = pos 0; z = pos 1 }; moment = record { x = pos 0; y = pos 0; z = negsuc 0 } } ∷ [] }
 unfolding cell_fault judged later_fault contents is_skipped is_heading has_bad_byte is_metric_line is_atom_line is_end_line number_words is_metric_in_range is_positive are_positions_in_range are_moments_in_range positions moments same_place gcd lcm number_fault number_value names_of cell_with residue
 antiferromagnet = refl
 
-manganese_fluoride : cell_of (lines (text_of (codes "magcell 1" ∷ codes "metric 2375/100 2375/100 1096/100 0 0 0" ∷ codes "atom Mn 0 0 0 0 0 1" ∷ codes "atom Mn 1/2 1/2 1/2 0 0 -1" ∷ codes "atom F 61/200 61/200 0" ∷ codes "atom F -61/200 -61/200 0" ∷ codes "atom F 161/200 39/200 1/2" ∷ codes "atom F 39/200 161/200 1/2" ∷ codes "end" ∷ []))) ≡ record { names = (77 ∷ 110 ∷ []) ∷ (70 ∷ []) ∷ []; scale = pos 100; metric = record { a11 = pos 2375; a12 = pos 0; a13 = pos 0; a21 = pos 0; a22 = pos 2375; a23 = pos 0; a31 = pos 0; a32 = pos 0; a33 = pos 1096 }; n = 200; k = 1; sites = record { species = 0; position = record { x = pos 0; y = pos 0; z = pos 0 }; moment = record { x = pos 0; y = pos 0; z = pos 1 } } ∷ record { species = 0; position = record { x = pos 100; y = pos 100; z = pos 100 }; moment = record { x = pos 0; y = pos 0; z = negsuc 0 } } ∷ record { species = 1; position = record { x = pos 61; y = pos 61; z = pos 0 }; moment = record { x = pos 0; y = pos 0; z = pos 0 } } ∷ record { species = 1; position = record { x = pos 139; y = pos 139; z = pos 0 }; moment = record { x = pos 0; y = pos 0; z = pos 0 } } ∷ record { species = 1; position = record { x = pos 161; y = pos 39; z = pos 100 }; moment = record { x = pos 0; y = pos 0; z = pos 0 } } ∷ record { species = 1; position = record { x = pos 39; y = pos 161; z = pos 100 }; moment = record { x = pos 0; y = pos 0; z = pos 0 } } ∷ [] }
+manganese_fluoride : cell_of (lines (text_of (codes "magcell 1" ∷ codes "metric 2375/100 2375/100 1096/100 0 0 0" ∷ codes "atom Mn 0 0 0 0 0 1" ∷ codes "atom Mn 1/2 1/2 1/2 0 0 -1" ∷ codes "atom F 61/200 61/200 0" ∷ codes "atom F -61/200 -61/200 0" ∷ codes "atom F 161/200 39/200 1/2" ∷ codes "atom F 39/200 161/200 1/2" ∷ codes "end" ∷ []))) ≡ record { names = (77 ∷ 110 ∷ []) ∷ (70 ∷ []) ∷ []; scale = pos 100; metric = record { a11 = pos 2375; a12 = pos 0; a13 = pos 0; a21 = pos 0; a22 = pos 2375; a23 = pos 0; a31 = pos 0; a32 = pos 0; a33 = pos 1096 }; n = 200; k = 1; kind = axial_vectors; sites = record { species = 0; position = record { x = pos 0; y = pos 0; z = pos 0 }; moment = record { x = pos 0; y = pos 0; z = pos 1 } } ∷ record { species = 0; position = record { x = pos 100; y = pos 100; z = pos 100 }; moment = record { x = pos 0; y = pos 0; z = negsuc 0 } } ∷ record { species = 1; position = record { x = pos 61; y = pos 61; z = pos 0 }; moment = record { x = pos 0; y = pos 0; z = pos 0 } } ∷ record { species = 1; position = record { x = pos 139; y = pos 139; z = pos 0 }; moment = record { x = pos 0; y = pos 0; z = pos 0 } } ∷ record { species = 1; position = record { x = pos 161; y = pos 39; z = pos 100 }; moment = record { x = pos 0; y = pos 0; z = pos 0 } } ∷ record { species = 1; position = record { x = pos 39; y = pos 161; z = pos 100 }; moment = record { x = pos 0; y = pos 0; z = pos 0 } } ∷ [] }
 unfolding cell_fault judged later_fault contents is_skipped is_heading has_bad_byte is_metric_line is_atom_line is_end_line number_words is_metric_in_range is_positive are_positions_in_range are_moments_in_range positions moments same_place gcd lcm number_fault number_value names_of cell_with residue
 manganese_fluoride = refl
 

@@ -13,3 +13,4 @@ pub mod FirstUse
 pub mod Apart
 pub mod NameLemmas
 pub mod Fillings
+pub mod PassedLines

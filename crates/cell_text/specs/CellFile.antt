@@ -3,13 +3,14 @@
 --   number_of ns w  which of the names it is, from 0
 --   site_of ns n k  the atom of a cell, with its position in units of 1/n modulo n and its moment in units of 1/k
 --   cell_with held  the cell of these contents: scale, n and k are the least common denominators of the metric tensor, of
---                   all positions and of all moments
+--                   all positions and of all moments, which are axial vectors
 --   Spells text c   no line of the text breaks a rule, and c is the cell of its lines
 use Rattle.std.specs.Prelude.{◌≡◌, ℕ, ℤ, pos, List, [], ◌∷◌, ◌++◌, map, get_or, if◌then◌else◌}
 use Rattle.std.specs.List.{fold, list_any, position_or_len}
 use Rattle.std.specs.declared.option.Option.TheVariants.{None}
 use Rattle.numbers.specs.Residue.{residue}
 use Rattle.crystal_spec.specs.Matrices.{Triple}
+use Rattle.crystal_spec.specs.Moments.{axial_vectors}
 use Rattle.crystal_spec.specs.Crystals.{Site, Structure}
 use Rattle.cell_text.specs.Text.{lines}
 use Rattle.cell_text.specs.Numbers.{Fraction, common_denominator, scaled}
@@ -51,6 +52,7 @@ cell_with held = record {
   metric = (get_or held.metrics 0 no_metric).entries;
   n = common_denominator (positions held.atoms);
   k = common_denominator (moments held.atoms);
+  kind = axial_vectors;
   sites = map (site_of (names_of held.atoms) (common_denominator (positions held.atoms)) (common_denominator (moments held.atoms))) held.atoms;
 }
 

@@ -2,6 +2,7 @@
 --   with_site c a      the cell with one atom more, and its name where it is new
 --   filled held as     the cell of these contents with the first atoms alone
 use Rattle.std.specs.Prelude.{ℕ, pos, List, [], ◌∷◌, ◌++◌, map, true}
+use Rattle.crystal_spec.specs.Moments.{axial_vectors}
 use Rattle.crystal_spec.specs.Crystals.{Structure}
 use Rattle.cell_text.specs.Entries.{AtomLine, ScaledMetric, Contents}
 use Rattle.cell_text.specs.CellFile.{with_name, names_of, site_of}
@@ -21,5 +22,6 @@ filled metric n k all held = record {
   metric = metric.entries;
   n = n;
   k = k;
+  kind = axial_vectors;
   sites = map (site_of (names_of all) n k) held;
 }

@@ -1,4 +1,5 @@
 ghost use Rattle.std.specs.Prelude.{◌≡◌, ◌≤◌, ◌<◌, ◌^◌, pos, map, length, IfOk, OnOk, true, [], ◌∷◌};
+ghost use Rattle.crystal_spec.specs.Moments.{axial_vectors};
 ghost use Rattle.crystal.specs.Names.{is_name};
 ghost use Rattle.crystal.specs.Views.{metric_of as tensor};
 ghost use Rattle.crystal.specs.Occupants.{NoneAt};
@@ -13,10 +14,16 @@ use crate::atom_line::AtomLine;
 use crate::names::{first_names, number_name};
 use crate::scaled_metric::ScaledMetric;
 use crate::site::{moment_of, position_of};
-use crystal::{Atom, Cell, Name};
+use crystal::{Atom, Cell, MomentKind, Name};
 use exact_num::Int;
 use indexmap::IndexSet;
 use std::alloc::{AllocError, Global};
+
+/// The kind of magnetic moments.
+const AXIAL_VECTORS: MomentKind = MomentKind {
+    vector: true,
+    axial: true,
+};
 
 /// Names the species of this number, unless it has its name.
 fn name_species(cell: &mut Cell, number: usize, name: &[u8]) -> Result<(), AllocError>
@@ -46,6 +53,7 @@ fn add_atom(
     requires n_at_least { 1 ≤ cell.old.n }
     requires n_at_most { cell.old.n ≤ 10 ^ 6 }
     requires k_at_most { cell.old.k ≤ 10 ^ 6 }
+    requires kind { cell.old.kind ≡ axial_vectors }
     requires free { NoneAt (position_of cell.old.n (atom_view atom.now)) cell.old.sites }
     requires fewer_names { length cell.old.names < 512 }
     requires fewer { length cell.old.sites < 512 }
@@ -85,7 +93,7 @@ fn first_cell(
     requires n_at_most { n ≤ 10 ^ 6 }
     requires k_at_least { 1 ≤ k }
     requires k_at_most { k ≤ 10 ^ 6 }
-    ensures { IfOk result (λ c. c ≡ record { names = atom.now.name.items ∷ []; scale = pos metric.now.scale; metric = tensor metric.now.metric; n = n; k = k; sites = record { species = 0; position = position_of n (atom_view atom.now); moment = moment_of k (atom_view atom.now) } ∷ [] }) }
+    ensures { IfOk result (λ c. c ≡ record { names = atom.now.name.items ∷ []; scale = pos metric.now.scale; metric = tensor metric.now.metric; n = n; k = k; kind = axial_vectors; sites = record { species = 0; position = position_of n (atom_view atom.now); moment = moment_of k (atom_view atom.now) } ∷ [] }) }
 {
     let Some(name) = Name::new(&atom.name) else {
         unreachable!();
@@ -96,7 +104,16 @@ fn first_cell(
         moment: moment_of(atom, k),
     };
     let scale = exact_scale(metric);
-    Cell::build(alloc, scale, metric.metric, n, k, name, first)
+    Cell::build(
+        alloc,
+        scale,
+        metric.metric,
+        n,
+        k,
+        AXIAL_VECTORS,
+        name,
+        first,
+    )
 }
 
 /// The cell of a metric tensor and of one or more atoms, no two at one position.

@@ -1,4 +1,5 @@
 ghost use Rattle.std.specs.Prelude.{◌≡◌, ◌<◌, ◌^◌, ◌+◌, length, MatchResult, IfOk, IfErr, None, true};
+ghost use Rattle.crystal.specs.Numbering.{AreByFirstUse};
 ghost use Rattle.cell_text.specs.Text.{lines};
 ghost use Rattle.cell_text.specs.Entries.{contents};
 ghost use Rattle.cell_text.specs.Rules.{cell_fault, Tells};
@@ -40,11 +41,12 @@ fn read_lines(alloc: Global, text: &[u8]) -> Result<Reader, CellError>
 
 /// The cell that the text of a cell file `magcell 1` spells.
 ///
-/// Asks that the text has fewer than 2^32 - 1 bytes. `Refused` names the first line that breaks a rule, counted from 1, and
+/// Its species are numbered in the order of their first use. Asks that the text has fewer than 2^32 - 1 bytes. `Refused` names the first line that breaks a rule, counted from 1, and
 /// the first rule that it breaks; `Memory` comes for want of memory alone.
 pub fn read_cell(alloc: Global, text: &Bytes) -> Result<Cell, CellError>
     requires { length text.now + 1 < 2 ^ 32 }
     ensures value { IfOk result (Spells text.now) }
+    ensures numbered { IfOk result (λ c. AreByFirstUse 0 (length c.names) c.sites) }
     ensures refused { IfErr result (Tells (cell_fault text.now)) }
 {
     let reader = match read_lines(alloc, text.as_slice()) {

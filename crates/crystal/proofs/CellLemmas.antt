@@ -2,6 +2,7 @@
 use Rattle.std.proofs.Common.{◌≡◌, refl, sym, ap, subst, ◌∙◌, ◌⊎◌, inl, inr, ℕ, ◌+◌, ◌≤◌, ◌<◌, List, [], ◌∷◌, ◌++◌, length, arith, length-append}
 use Rattle.std.specs.Prelude.{slice_get, Some}
 use Rattle.crystal_spec.specs.Increasing.{IsMember, IsDistinct}
+use Rattle.crystal_spec.specs.declared.MomentKind.{MomentKind}
 use Rattle.crystal_spec.specs.Matrices.{Triple}
 use Rattle.crystal_spec.specs.Crystals.{Site, Structure}
 use Rattle.crystal_spec.proofs.Images.{IsApart}
@@ -9,13 +10,13 @@ use Rattle.crystal.specs.Occupants.{NoneAt}
 use Rattle.crystal.specs.Cells.{IsCell, IsSiteOf, AreSitesOf, AreApart}
 
 -- ---- one more
-sites_more : (m n : ℕ) (xs : List Site) (x : Site) → AreSitesOf m n xs → IsSiteOf m n x → AreSitesOf m n (xs ++ x ∷ [])
-sites_more m n [] x h k = (k, tt)
-sites_more m n (y ∷ ys) x h k = (h.0, sites_more m n ys x h.1 k)
+sites_more : (m n : ℕ) (kind : MomentKind) (xs : List Site) (x : Site) → AreSitesOf m n kind xs → IsSiteOf m n kind x → AreSitesOf m n kind (xs ++ x ∷ [])
+sites_more m n kind [] x h k = (k, tt)
+sites_more m n kind (y ∷ ys) x h k = (h.0, sites_more m n kind ys x h.1 k)
 
-named_more : (m n : ℕ) (xs : List Site) → AreSitesOf m n xs → AreSitesOf (m + 1) n xs
-named_more m n [] h = tt
-named_more m n (y ∷ ys) h = (record { named = omega (arith, h.0.named); within = h.0.within; moment = h.0.moment }, named_more m n ys h.1)
+named_more : (m n : ℕ) (kind : MomentKind) (xs : List Site) → AreSitesOf m n kind xs → AreSitesOf (m + 1) n kind xs
+named_more m n kind [] h = tt
+named_more m n kind (y ∷ ys) h = (record { named = omega (arith, h.0.named); within = h.0.within; moment = h.0.moment; of_kind = h.0.of_kind }, named_more m n kind ys h.1)
 
 none_more : (p : Triple) (xs : List Site) (x : Site) → NoneAt p xs → (x.position ≡ p → ⊥) → NoneAt p (xs ++ x ∷ [])
 none_more p [] x h k = (k, tt)
@@ -51,7 +52,7 @@ length_more : {X : Type 0} (xs : List X) (x : X) → length (xs ++ x ∷ []) ≡
 length_more xs x = length-append xs (x ∷ [])
 
 -- a cell with one atom more
-pub atom_more : (c : Structure) (x : Site) → IsCell c → IsSiteOf (length c.names) c.n x → NoneAt x.position c.sites → length c.sites < 512 → IsCell (record c { sites = c.sites ++ x ∷ [] })
+pub atom_more : (c : Structure) (x : Site) → IsCell c → IsSiteOf (length c.names) c.n c.kind x → NoneAt x.position c.sites → length c.sites < 512 → IsCell (record c { sites = c.sites ++ x ∷ [] })
 atom_more c x h k free few = record {
   positive = h.positive;
   symmetric = h.symmetric;
@@ -66,7 +67,7 @@ atom_more c x h k free few = record {
   some = omega (arith, length_more c.sites x);
   few = omega (arith, length_more c.sites x);
   first = λ s e. h.first s (first_more c.sites x s h.some e);
-  sites = sites_more (length c.names) c.n c.sites x h.sites k;
+  sites = sites_more (length c.names) c.n c.kind c.sites x h.sites k;
   apart = apart_more c.sites x h.apart free;
 }
 
@@ -86,15 +87,15 @@ name_more c name h new = record {
   some = h.some;
   few = h.few;
   first = h.first;
-  sites = subst (λ (m : ℕ). AreSitesOf m c.n c.sites) (sym (length_more c.names name)) (named_more (length c.names) c.n c.sites h.sites);
+  sites = subst (λ (m : ℕ). AreSitesOf m c.n c.kind c.sites) (sym (length_more c.names name)) (named_more (length c.names) c.n c.kind c.sites h.sites);
   apart = h.apart;
 }
 
 -- ---- the atoms
-pub site_member : (m n : ℕ) (xs : List Site) (x : Site) → AreSitesOf m n xs → IsMember x xs → IsSiteOf m n x
-site_member m n [] x h k = absurd k
-site_member m n (y ∷ ys) x h (inl e) = subst (IsSiteOf m n) (sym e) h.0
-site_member m n (y ∷ ys) x h (inr k) = site_member m n ys x h.1 k
+pub site_member : (m n : ℕ) (kind : MomentKind) (xs : List Site) (x : Site) → AreSitesOf m n kind xs → IsMember x xs → IsSiteOf m n kind x
+site_member m n kind [] x h k = absurd k
+site_member m n kind (y ∷ ys) x h (inl e) = subst (IsSiteOf m n kind) (sym e) h.0
+site_member m n kind (y ∷ ys) x h (inr k) = site_member m n kind ys x h.1 k
 
 pub none_member : (p : Triple) (xs : List Site) (x : Site) → NoneAt p xs → IsMember x xs → x.position ≡ p → ⊥
 none_member p [] x h k e = k
@@ -115,7 +116,7 @@ distinct (x ∷ xs) h = ((λ m. none_member x.position xs x h.0 m refl), distinc
 -- a cell's atoms are within it and apart
 pub apart_cell : (c : Structure) → IsCell c → IsApart c
 apart_cell c h = record {
-  within = λ a m. (site_member (length c.names) c.n c.sites a h.sites m).within;
+  within = λ a m. (site_member (length c.names) c.n c.kind c.sites a h.sites m).within;
   told = λ a b j k e. told c.sites a b h.apart j k e;
   distinct = distinct c.sites h.apart;
 }

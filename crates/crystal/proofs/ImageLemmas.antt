@@ -3,6 +3,7 @@ use Rattle.std.proofs.Common.{◌≡◌, refl, sym, ap, subst, ◌∙◌, inl, i
 use Rattle.std.specs.Prelude.{ℤ, pos, ◌*ℤ◌, ◌↔◌, slice_get, Some}
 use Rattle.crystal_spec.specs.Increasing.{IsMember}
 use Rattle.crystal_spec.specs.Matrices.{Matrix, Triple, multiple, sum_of}
+use Rattle.crystal_spec.specs.Moments.{moment_matrix}
 use Rattle.crystal_spec.specs.Crystals.{Site, Structure, Occupied, Keeps, KeepsMetric}
 use Rattle.crystal_spec.proofs.Images.{occupant_within, keeps_by_images, images_of_keeps}
 use Rattle.crystal.specs.Occupants.{IsOccupant, NoneAt}
@@ -55,18 +56,18 @@ pub unoccupied_at : (c : Structure) → IsCell c → (s : ℕ) (p m q : Triple) 
 unoccupied_at c cell s p m q f none k =
     none_member q c.sites k.site none k.of_cell (occupant_within c (apart_cell c cell) s p q m f.cells f.within f.same k)
 
-pub image_member : (c : Structure) (w : Matrix) (t : Triple) (sign : ℤ) (xs : List Site) (a : Site) → HaveImages c w t sign xs → IsMember a xs → HasImage c w t sign a
-image_member c w t sign [] a h m = absurd m
-image_member c w t sign (x ∷ xs) a h (inl e) = subst (HasImage c w t sign) (sym e) h.0
-image_member c w t sign (x ∷ xs) a h (inr m) = image_member c w t sign xs a h.1 m
+pub image_member : (c : Structure) (w : Matrix) (t : Triple) (l : Matrix) (xs : List Site) (a : Site) → HaveImages c w t l xs → IsMember a xs → HasImage c w t l a
+image_member c w t l [] a h m = absurd m
+image_member c w t l (x ∷ xs) a h (inl e) = subst (HasImage c w t l) (sym e) h.0
+image_member c w t l (x ∷ xs) a h (inr m) = image_member c w t l xs a h.1 m
 
-all_images : (c : Structure) (w : Matrix) (t : Triple) (sign : ℤ) (xs : List Site) → ((a : Site) → IsMember a xs → HasImage c w t sign a) → HaveImages c w t sign xs
-all_images c w t sign [] h = tt
-all_images c w t sign (x ∷ xs) h = (h x (inl refl), all_images c w t sign xs (λ a m. h a (inr m)))
+all_images : (c : Structure) (w : Matrix) (t : Triple) (l : Matrix) (xs : List Site) → ((a : Site) → IsMember a xs → HasImage c w t l a) → HaveImages c w t l xs
+all_images c w t l [] h = tt
+all_images c w t l (x ∷ xs) h = (h x (inl refl), all_images c w t l xs (λ a m. h a (inr m)))
 
 -- a map keeps the crystal of a cell where it keeps the metric tensor and each atom has an image
-pub keeps_exactly : {T : Type 0} (c : Structure) (w : Matrix) (t : Triple) (sign : ℤ) → IsCell c → sign *ℤ sign ≡ pos 1 → KeepsMetric c.metric w → T ↔ HaveImages c w t sign c.sites → T ↔ Keeps c w t sign
+pub keeps_exactly : {T : Type 0} (c : Structure) (w : Matrix) (t : Triple) (sign : ℤ) → IsCell c → sign *ℤ sign ≡ pos 1 → KeepsMetric c.metric w → T ↔ HaveImages c w t (moment_matrix c.kind w sign) c.sites → T ↔ Keeps c w t sign
 keeps_exactly c w t sign cell s k test = (
-  (λ h. keeps_by_images c w t sign (apart_cell c cell) cell.positive s k (λ a m. image_member c w t sign c.sites a (test.0 h) m)),
-  (λ h. test.1 (all_images c w t sign c.sites (images_of_keeps c w t sign h))),
+  (λ h. keeps_by_images c w t sign (apart_cell c cell) cell.positive s k (λ a m. image_member c w t (moment_matrix c.kind w sign) c.sites a (test.0 h) m)),
+  (λ h. test.1 (all_images c w t (moment_matrix c.kind w sign) c.sites (images_of_keeps c w t sign h))),
 )

@@ -6,7 +6,7 @@ use Rattle.crystal.specs.Cells.{IsCell}
 use Rattle.crystal.specs.declared.cell.Cell.TheInside.{Inside}
 
 abbrev pub structure_of : Inside → Structure
-structure_of c = record { names = c.names.items; scale = c.scale; metric = metric_of c.metric; n = c.n; k = c.k; sites = map site_of c.atoms.items }
+structure_of c = record { names = c.names.items; scale = c.scale; metric = metric_of c.metric; n = c.n; k = c.k; kind = c.kind; sites = map site_of c.atoms.items }
 
 abbrev pub HoldsCell : Inside → Type 0
 HoldsCell c = IsCell (structure_of c)

@@ -1,9 +1,11 @@
 -- The cells that the code holds.
 --   IsCell c   c is a cell: a positive metric tensor, units within bounds, names that differ, and 1 to 512 atoms within the
---              cell, of named species, no two at one position
+--              cell, of named species and with moments of the cell's kind, no two at one position
 use Rattle.std.specs.Prelude.{◌≡◌, ℕ, pos, ◌*◌, ◌^◌, ◌<◌, ◌≤◌, ◌≤ℤ◌, List, [], ◌∷◌, length, slice_get, Some}
 use Rattle.crystal_spec.specs.Increasing.{IsDistinct}
+use Rattle.crystal_spec.specs.declared.MomentKind.{MomentKind}
 use Rattle.crystal_spec.specs.Matrices.{Matrix}
+use Rattle.crystal_spec.specs.Moments.{IsOfKind}
 use Rattle.crystal_spec.specs.Crystals.{Site, Structure, IsPositive}
 use Rattle.crystal_spec.specs.Operations.{IsWithinCell}
 use Rattle.crystal.specs.Bounds.{EntriesAtMost, CoordinatesAtMost}
@@ -15,15 +17,16 @@ pub record IsSymmetric (g : Matrix) : Type 0 where
   pub ac : g.a31 ≡ g.a13
   pub bc : g.a32 ≡ g.a23
 
--- an atom of one of so many species, at a position from 0 to n - 1, with a moment of size up to 2 · 10^27
-pub record IsSiteOf (species n : ℕ) (site : Site) : Type 0 where
+-- an atom of one of so many species, at a position from 0 to n - 1, with a moment of this kind and of size up to 2 · 10^27
+pub record IsSiteOf (species n : ℕ) (kind : MomentKind) (site : Site) : Type 0 where
   pub named : site.species < species
   pub within : IsWithinCell n site.position
   pub moment : CoordinatesAtMost (2 * 10 ^ 27) site.moment
+  pub of_kind : IsOfKind kind site.moment
 
-abbrev pub AreSitesOf : ℕ → ℕ → List Site → Type 0
-AreSitesOf species n [] = Unit {0}
-AreSitesOf species n (site ∷ sites) = IsSiteOf species n site × AreSitesOf species n sites
+abbrev pub AreSitesOf : ℕ → ℕ → MomentKind → List Site → Type 0
+AreSitesOf species n kind [] = Unit {0}
+AreSitesOf species n kind (site ∷ sites) = IsSiteOf species n kind site × AreSitesOf species n kind sites
 
 -- no two are at one position
 abbrev pub AreApart : List Site → Type 0
@@ -44,5 +47,5 @@ pub record IsCell (c : Structure) : Type 0 where
   pub some : 1 ≤ length c.sites
   pub few : length c.sites ≤ 512
   pub first : (site : Site) → slice_get c.sites 0 ≡ Some site → site.species ≡ 0
-  pub sites : AreSitesOf (length c.names) c.n c.sites
+  pub sites : AreSitesOf (length c.names) c.n c.kind c.sites
   pub apart : AreApart c.sites

@@ -1,4 +1,5 @@
 pub mod Names
+pub mod Numbering
 pub mod Views
 pub mod Bounds
 pub mod Occupants

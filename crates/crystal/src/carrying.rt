@@ -1,15 +1,13 @@
-ghost use Rattle.std.specs.Prelude.{◌≡◌, ◌↔◌, ◌≤◌, ◌*◌, ◌^◌, ◌*ℤ◌, pos, IsTrue};
-ghost use Rattle.crystal_spec.specs.Matrices.{determinant};
-ghost use Rattle.crystal_spec.specs.Operations.{sign_factor};
+ghost use Rattle.std.specs.Prelude.{◌≡◌, ◌↔◌, ◌≤◌, ◌*◌, ◌^◌, IsTrue};
 ghost use Rattle.crystal.specs.Views.{site_of, triple_of};
 ghost use Rattle.crystal.specs.Bounds.{EntriesAtMost, CoordinatesAtMost};
 ghost use Rattle.crystal.specs.Carrying.{HasImage, HaveImages};
 
 use crate::atom::Atom;
 use crate::cell::Cell;
-use crate::mapping::{carried_moment, carried_place};
+use crate::mapping::carried_place;
+use crate::moments::carried_moment;
 use crate::place_index::PlaceIndex;
-use crystal_spec::Sign;
 use exact_num::Int;
 use matrix3::{Mat3, Vec3};
 
@@ -20,24 +18,24 @@ fn is_of(atom: &Atom, species: u16, moment: &Vec3<Int>) -> bool
     atom.species == species && atom.moment == *moment
 }
 
-/// Whether an isometry with this translation and time sign carries an atom of the cell to an atom of its species with the
-/// carried moment.
+/// Whether the map of this matrix and translation, which acts on moments by the matrix `moments`, carries an atom of the
+/// cell to an atom of its species with the carried moment.
 fn has_image(
     cell: &Cell,
     index: &PlaceIndex,
     w: &Mat3<Int>,
     shift: [u32; 3],
-    sign: Sign,
+    moments: &Mat3<Int>,
     atom: &Atom,
 ) -> bool
     requires map { EntriesAtMost 150000000 w.now }
-    requires isometry { determinant w.now *ℤ determinant w.now ≡ pos 1 }
+    requires moments { EntriesAtMost 150000000 moments.now }
     requires moment { CoordinatesAtMost (2 * 10 ^ 27) atom.now.moment }
-    ensures { IsTrue result ↔ HasImage cell.now w.now (triple_of shift) (sign_factor sign) (site_of atom.now) }
+    ensures { IsTrue result ↔ HasImage cell.now w.now (triple_of shift) moments.now (site_of atom.now) }
 {
     let _form = cell.count();
     let place = carried_place(w, shift, atom.place, cell.n());
-    let moment = carried_moment(w, sign, &atom.moment);
+    let moment = carried_moment(moments, &atom.moment);
     match cell.occupant(index, place) {
         Some(i) => is_of(cell.atom(i), atom.species, &moment),
         None => false,
@@ -50,14 +48,14 @@ pub(crate) fn have_images(
     index: &PlaceIndex,
     w: &Mat3<Int>,
     shift: [u32; 3],
-    sign: Sign,
+    moments: &Mat3<Int>,
 ) -> bool
     requires map { EntriesAtMost 150000000 w.now }
-    requires isometry { determinant w.now *ℤ determinant w.now ≡ pos 1 }
-    ensures { IsTrue result ↔ HaveImages cell.now w.now (triple_of shift) (sign_factor sign) cell.now.sites }
+    requires moments { EntriesAtMost 150000000 moments.now }
+    ensures { IsTrue result ↔ HaveImages cell.now w.now (triple_of shift) moments.now cell.now.sites }
 {
     for i in 0..cell.count() {
-        if !has_image(cell, index, w, shift, sign, cell.atom(i)) {
+        if !has_image(cell, index, w, shift, moments, cell.atom(i)) {
             return false;
         }
     }

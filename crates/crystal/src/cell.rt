@@ -1,5 +1,6 @@
 ghost use Rattle.std.specs.Prelude.{◌≡◌, ◌*◌, ◌^◌, ◌<◌, ◌≤◌, ◌≤ℤ◌, pos, IfOk, IfSome, IfNone, OnOk, OnErr, [], ◌∷◌, ◌++◌, length, slice_get, Some};
 ghost use Rattle.crystal_spec.specs.Increasing.{IsMember};
+ghost use Rattle.crystal_spec.specs.Moments.{IsOfKind};
 ghost use Rattle.crystal_spec.specs.Crystals.{IsPositive};
 ghost use Rattle.crystal_spec.specs.Operations.{IsWithinCell};
 ghost use Rattle.crystal.specs.Views.{metric_of, site_of, triple_of};
@@ -12,6 +13,7 @@ use crate::metric::Metric;
 use crate::name::Name;
 use crate::occupant::find_occupant;
 use crate::place_index::PlaceIndex;
+use crystal_spec::MomentKind;
 use exact_num::Int;
 use std::alloc::{AllocError, Global};
 use std::marker::Model;
@@ -19,7 +21,8 @@ use std::marker::Model;
 /// A cell of a magnetic crystal: its metric tensor in units of 1/scale, the names of its species, and its atoms.
 ///
 /// The metric tensor is positive, with entries of size up to 10^16, and the scale is from 1 to 10^16. Positions are in
-/// units of 1/n, moments in units of 1/k, n and k from 1 to 10^6. There are 1 to 512 atoms, no two at one position.
+/// units of 1/n, moments in units of 1/k, n and k from 1 to 10^6. All moments are of one kind. There are 1 to 512 atoms, no
+/// two at one position.
 #[derive(Drop)]
 pub struct Cell {
     names: Vec<Name>,
@@ -27,6 +30,7 @@ pub struct Cell {
     metric: Metric,
     n: u32,
     k: u32,
+    kind: MomentKind,
     atoms: Vec<Atom>,
 }
 
@@ -56,6 +60,7 @@ fn copy_of_names(alloc: Global, names: &[Name]) -> Result<Vec<Name>, AllocError>
 impl Cell {
     /// The cell of one atom, whose species is the first, with the metric tensor in units of 1/scale.
     ///
+    /// Where the kind is not that of vectors, the moment of the atom is one number s, given as (s, 0, 0).
     /// Refuses for want of memory alone.
     pub fn build(
         alloc: Global,
@@ -63,6 +68,7 @@ impl Cell {
         metric: Metric,
         n: u32,
         k: u32,
+        kind: MomentKind,
         name: Name,
         first: Atom,
     ) -> Result<Cell, AllocError>
@@ -77,7 +83,8 @@ impl Cell {
         requires species { first.species ≡ 0 }
         requires place { IsWithinCell n (triple_of first.place) }
         requires moment { CoordinatesAtMost (2 * 10 ^ 27) first.moment }
-        ensures { IfOk result (λ c. c ≡ record { names = name ∷ []; scale = scale; metric = metric_of metric; n = n; k = k; sites = site_of first ∷ [] }) }
+        requires of_kind { IsOfKind kind first.moment }
+        ensures { IfOk result (λ c. c ≡ record { names = name ∷ []; scale = scale; metric = metric_of metric; n = n; k = k; kind = kind; sites = site_of first ∷ [] }) }
     {
         let mut names = Vec::new(alloc);
         names.push(name)?;
@@ -89,6 +96,7 @@ impl Cell {
             metric,
             n,
             k,
+            kind,
             atoms,
         })
     }
@@ -108,11 +116,11 @@ impl Cell {
         Ok(number)
     }
 
-    /// Adds an atom of a named species, at a position within the cell where no atom is.
+    /// Adds an atom of a named species, with a moment of the cell's kind, at a position within the cell where no atom is.
     ///
     /// Refuses for want of memory alone, and then leaves the cell as it was.
     pub fn add(&mut self, atom: Atom) -> Result<(), AllocError>
-        requires site { IsSiteOf (length self.old.names) self.old.n (site_of atom) }
+        requires site { IsSiteOf (length self.old.names) self.old.n self.old.kind (site_of atom) }
         requires free { NoneAt (triple_of atom.place) self.old.sites }
         requires fewer { length self.old.sites < 512 }
         ensures value { OnOk result (self.new ≡ record self.old { sites = self.old.sites ++ site_of atom ∷ [] }) }
@@ -150,6 +158,13 @@ impl Cell {
         self.k
     }
 
+    /// The kind of the moments.
+    pub fn kind(&self) -> MomentKind
+        ensures { result ≡ self.now.kind }
+    {
+        self.kind
+    }
+
     /// How many atoms the cell has, 1 to 512.
     pub fn count(&self) -> usize
         ensures value { result ≡ length self.now.sites }
@@ -169,7 +184,7 @@ impl Cell {
     pub fn atom(&self, i: usize) -> &Atom
         requires { i < length self.now.sites }
         ensures value { slice_get self.now.sites i ≡ Some (site_of result.now) }
-        ensures form { IsSiteOf (length self.now.names) self.now.n (site_of result.now) }
+        ensures form { IsSiteOf (length self.now.names) self.now.n self.now.kind (site_of result.now) }
     {
         &self.atoms[i]
     }
@@ -208,6 +223,7 @@ impl Cell {
             metric: self.metric,
             n: self.n,
             k: self.k,
+            kind: self.kind,
             atoms,
         })
     }

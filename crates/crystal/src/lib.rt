@@ -1,7 +1,8 @@
 //! Cells of magnetic crystals, the atoms by position, and the test whether one map keeps the crystal.
 //!
 //! A cell is seen as a `Structure` of crystal_spec: the metric tensor of the axes in units of 1/scale, positions in units
-//! of 1/n and moments in units of 1/k, both along the axes.
+//! of 1/n and moments in units of 1/k, both along the axes. The cell's kind says whether moments are vectors or scalars,
+//! and whether they are axial; each kind is acted on by one matrix.
 #![tactic(auto)]
 
 mod atom;
@@ -9,6 +10,7 @@ mod carrying;
 mod cell;
 mod mapping;
 mod metric;
+mod moments;
 mod name;
 mod occupant;
 mod place_index;
@@ -19,9 +21,10 @@ mod tests;
 
 pub use atom::Atom;
 pub use cell::Cell;
-pub use crystal_spec::Sign;
+pub use crystal_spec::{MomentKind, Sign};
 pub use mapping::translation_onto;
 pub use metric::Metric;
+pub use moments::{moment_matrix, turn_matrix};
 pub use name::Name;
 pub use places::Places;
 pub use steps::Steps;

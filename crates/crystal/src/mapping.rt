@@ -1,13 +1,11 @@
 ghost use Rattle.std.specs.Prelude.{◌≡◌, ◌↔◌, ◌+◌, ◌*◌, ◌^◌, ◌<◌, ◌≤◌, ℤ, ◌+ℤ◌, ◌*ℤ◌, pos, IsTrue};
 ghost use Rattle.ring.specs.Size.{AtMost};
-ghost use Rattle.crystal_spec.specs.Matrices.{determinant, difference, image, multiple};
-ghost use Rattle.crystal_spec.specs.Crystals.{KeepsMetric, position_after, moment_after};
-ghost use Rattle.crystal_spec.specs.Operations.{sign_factor};
+ghost use Rattle.crystal_spec.specs.Matrices.{difference, image};
+ghost use Rattle.crystal_spec.specs.Crystals.{KeepsMetric, position_after};
 ghost use Rattle.crystal.specs.Views.{triple_of};
 ghost use Rattle.crystal.specs.Bounds.{EntriesAtMost, CoordinatesAtMost};
 ghost use Rattle.crystal.specs.Carrying.{FoldsTo};
 
-use crystal_spec::Sign;
 use exact_num::{Exact, Int, Residue};
 use matrix3::{Mat3, Vec3};
 
@@ -21,46 +19,8 @@ pub(crate) fn keeps_metric(g: &Mat3<Int>, w: &Mat3<Int>) -> bool
     carried == *g
 }
 
-/// The time sign times the determinant of an isometry, 1 or -1: what an axial vector is multiplied by.
-fn axial_factor(w: &Mat3<Int>, sign: Sign) -> Int
-    requires map { EntriesAtMost 150000000 w.now }
-    requires isometry { determinant w.now *ℤ determinant w.now ≡ pos 1 }
-    ensures { result ≡ sign_factor sign *ℤ determinant w.now }
-{
-    let determinant = w.handed();
-    match sign {
-        Sign::Same => determinant,
-        Sign::Reversed => -determinant,
-    }
-}
-
-/// A column times a number of size 1.
-fn multiple(factor: Int, v: &Vec3<Int>) -> Vec3<Int>
-    requires factor { factor *ℤ factor ≡ pos 1 }
-    requires column { CoordinatesAtMost (10 ^ 36) v.now }
-    ensures { result ≡ multiple factor v.now }
-{
-    let v = *v;
-    Vec3 {
-        x: factor * v.x,
-        y: factor * v.y,
-        z: factor * v.z,
-    }
-}
-
-/// The moment that an isometry with this time sign makes of a moment, as an axial vector.
-pub(crate) fn carried_moment(w: &Mat3<Int>, sign: Sign, moment: &Vec3<Int>) -> Vec3<Int>
-    requires map { EntriesAtMost 150000000 w.now }
-    requires moment { CoordinatesAtMost (2 * 10 ^ 27) moment.now }
-    requires isometry { determinant w.now *ℤ determinant w.now ≡ pos 1 }
-    ensures { result ≡ moment_after w.now (sign_factor sign) moment.now }
-{
-    let factor = axial_factor(w, sign);
-    multiple(factor, &w.apply(moment))
-}
-
 /// A natural number as an exact integer.
-fn whole(number: u32) -> Int
+pub(crate) fn whole(number: u32) -> Int
     ensures value { result ≡ pos number }
     ensures size { AtMost (2 ^ 32) result }
 {

@@ -7,6 +7,7 @@ ghost use Rattle.crystal.specs.Occupants.{IsOccupant, NoneAt};
 
 use crate::carrying::have_images;
 use crate::cell::Cell;
+use crate::moments::moment_matrix;
 use crate::place_index::PlaceIndex;
 use crate::steps::Steps;
 use crystal_spec::Sign;
@@ -79,6 +80,13 @@ impl Places {
         steps.tick();
         let cell = &self.cell;
         let _form = cell.count();
-        cell.metric().is_kept_by(w) && have_images(cell, &self.index, w, shift, sign)
+        cell.metric().is_kept_by(w)
+            && have_images(
+                cell,
+                &self.index,
+                w,
+                shift,
+                &moment_matrix(cell.kind(), w, sign),
+            )
     }
 }

@@ -4,7 +4,7 @@ ghost use Rattle.crystal_spec.specs.Crystals.{IsPositive};
 ghost use Rattle.crystal.specs.Views.{metric_of};
 ghost use Rattle.crystal.specs.Bounds.{EntriesAtMost, CoordinatesAtMost};
 
-use crate::{Atom, Cell, Metric, Name, Places, Sign, Steps};
+use crate::{Atom, Cell, Metric, MomentKind, Name, Places, Sign, Steps};
 use exact_num::Int;
 use matrix3::{Mat3, Vec3};
 use std::alloc::Global;
@@ -94,6 +94,9 @@ fn put(alloc: Global, cell: &mut Cell, atom: Atom) -> Result<(), Fail>
     if atom.species as usize >= cell.names() || cell.count() >= 512 {
         return Err(Fail::new("the species has no name, or the cell is full"));
     }
+    if !cell.kind().vector {
+        return Err(Fail::new("the moments are scalars"));
+    }
     let index = cell.index(alloc)?;
     if cell.occupant(&index, atom.place).is_some() {
         return Err(Fail::new("an atom is there"));
@@ -109,7 +112,11 @@ fn one_atom(alloc: Global, n: u32) -> Result<Cell, Fail>
     let manganese = Name::new(b"Mn").ok_or("Mn is no name")?;
     let oxygen = Name::new(b"O").ok_or("O is no name")?;
     let first = atom(0, [0, 0, 0], 1);
-    let mut cell = Cell::build(alloc, whole(1), axes(), n, 1, manganese, first)?;
+    let kind = MomentKind {
+        vector: true,
+        axial: true,
+    };
+    let mut cell = Cell::build(alloc, whole(1), axes(), n, 1, kind, manganese, first)?;
     cell.add_name(oxygen)?;
     Ok(cell)
 }
@@ -177,6 +184,45 @@ fn maps_keep_the_crystal_or_not(rt: HostRuntime) -> Result<(), Fail> {
     {
         let found = keeps::<Brand>(rt.alloc(), Blank::new(1), *cell, *rows, *shift, *sign)?;
         assert_eq!(rt; found, *kept, "map {i}");
+    }
+    Ok(())
+}
+
+/// A cell of one atom at the origin, whose moment is 1 along a, or the scalar 1.
+fn one_of_kind(alloc: Global, kind: MomentKind) -> Result<Cell, Fail> {
+    let name = Name::new(b"Mn").ok_or("Mn is no name")?;
+    let moment = Vec3 {
+        x: whole(1),
+        y: whole(0),
+        z: whole(0),
+    };
+    let first = Atom {
+        species: 0,
+        place: [0, 0, 0],
+        moment,
+    };
+    Ok(Cell::build(alloc, whole(1), axes(), 1, 1, kind, name, first)?)
+}
+
+#[test]
+fn the_inversion_turns_moments_by_their_kind(rt: HostRuntime) -> Result<(), Fail> {
+    for (vector, axial, kept) in [
+        (true, true, true),
+        (true, false, false),
+        (false, true, false),
+        (false, false, true),
+    ] {
+        let kind = MomentKind { vector, axial };
+        let cell = one_of_kind(rt.alloc(), kind)?;
+        let same = keeps::<Brand>(
+            rt.alloc(),
+            Blank::new(1),
+            &cell,
+            INVERSION,
+            [0, 0, 0],
+            Sign::Same,
+        )?;
+        assert_eq!(rt; (cell.kind(), same), (kind, kept));
     }
     Ok(())
 }

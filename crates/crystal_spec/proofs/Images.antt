@@ -64,7 +64,7 @@ occupant_within c apart s p q m k h e o =
 -- one atom is carried to another, but for whole cells
 pub record CarriesSite (c : Structure) (w : Matrix) (t : Triple) (sign : ℤ) (a b : Site) : Type 0 where
   pub same_species : b.species ≡ a.species
-  pub same_moment : b.moment ≡ moment_after w sign a.moment
+  pub same_moment : b.moment ≡ moment_after c.kind w sign a.moment
   pub cells : Triple
   pub onto : position_after w t a.position ≡ sum_of b.position (multiple (pos c.n) cells)
 

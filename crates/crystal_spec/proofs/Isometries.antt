@@ -1,15 +1,16 @@
--- An isometry of a positive metric has determinant 1 or -1, so it takes two positions to two and two moments to two.
-use Rattle.std.proofs.Common.{◌≡◌, refl, sym, ap, ◌∙◌, zero, suc, [], ◌∷◌, ◌++◌, arith}
-use Rattle.std.specs.Prelude.{ℤ, pos, negsuc, ◌*ℤ◌, ◌<ℤ◌, ◌⊎◌}
+-- An isometry of a positive metric has determinant 1 or -1, so it takes two positions to two.
+use Rattle.std.proofs.Common.{◌≡◌, refl, sym, ap, ◌∙◌, ℕ, zero, suc, ◌*◌, ◌≤◌, [], ◌∷◌, ◌++◌, arith}
+use Rattle.std.specs.Prelude.{ℤ, pos, negsuc, ◌*ℤ◌, ◌<ℤ◌, ◌⊎◌, unsigned_abs}
 use Rattle.std.proofs.Common.{inl, inr}
-use Rattle.std.proofs.lemmas.Int.{ints}
+use Rattle.std.proofs.lemmas.Int.{ints, unsigned_abs-mul}
+use Rattle.std.proofs.Math.Nat.{mul-le-mul_left}
 use Rattle.ring.specs.Ring.{quoted, var, con, ◌:*◌}
 use Rattle.matrix3.specs.Matrices.{entries, coordinates, matrix_of_variables, vector_of_variables}
 use Rattle.matrix3.specs.Matrices as formulas
 use Rattle.crystal_spec.specs.Matrices.{Matrix, Triple, product, determinant, transposed, adjugate, image, multiple}
 use Rattle.crystal_spec.specs.declared.Sign.{Sign}
 use Rattle.crystal_spec.specs.declared.Sign.TheVariants.{Same, Reversed}
-use Rattle.crystal_spec.specs.Crystals.{IsPositive, KeepsMetric, moment_after}
+use Rattle.crystal_spec.specs.Crystals.{IsPositive, KeepsMetric}
 use Rattle.crystal_spec.specs.Operations.{sign_factor}
 use Rattle.crystal_spec.proofs.Identities.{by_integers, by_triples}
 
@@ -66,7 +67,7 @@ multiple-one v =
     by_triples (coordinates v) (formulas.multiple quoted (con (pos 1)) y) y refl
 
 -- a factor whose square is 1 can be cancelled
-cancel_multiple : (a : ℤ) (u v : Triple) → a *ℤ a ≡ pos 1 → multiple a u ≡ multiple a v → u ≡ v
+pub cancel_multiple : (a : ℤ) (u v : Triple) → a *ℤ a ≡ pos 1 → multiple a u ≡ multiple a v → u ≡ v
 cancel_multiple a u v one e = sym (once u) ∙ ap (multiple a) e ∙ once v
   where
     once : (v : Triple) → multiple a (multiple a v) ≡ v
@@ -81,13 +82,25 @@ pub sign_squared : (s : Sign) → sign_factor s *ℤ sign_factor s ≡ pos 1
 sign_squared Same = refl
 sign_squared Reversed = refl
 
--- so has its product with the determinant
-pub axial_squared : (sign d : ℤ) → sign *ℤ sign ≡ pos 1 → d *ℤ d ≡ pos 1 → (sign *ℤ d) *ℤ (sign *ℤ d) ≡ pos 1
-axial_squared sign d s one = by_integers (sign ∷ d ∷ []) ((var 0 :* var 1) :* (var 0 :* var 1)) ((var 0 :* var 0) :* (var 1 :* var 1)) refl ∙ ap (λ a. a *ℤ (d *ℤ d)) s ∙ ap (λ a. pos 1 *ℤ a) one
+-- so has a product of such factors
+pub unit_product : (a b : ℤ) → a *ℤ a ≡ pos 1 → b *ℤ b ≡ pos 1 → (a *ℤ b) *ℤ (a *ℤ b) ≡ pos 1
+unit_product a b p q = by_integers (a ∷ b ∷ []) ((var 0 :* var 1) :* (var 0 :* var 1)) ((var 0 :* var 0) :* (var 1 :* var 1)) refl ∙ ap (λ x. x *ℤ (b *ℤ b)) p ∙ ap (λ x. pos 1 *ℤ x) q
 
--- it takes two moments to two
-pub cancel_moment : (w : Matrix) (sign : ℤ) (u v : Triple) → sign *ℤ sign ≡ pos 1 → determinant w *ℤ determinant w ≡ pos 1 → moment_after w sign u ≡ moment_after w sign v → u ≡ v
-cancel_moment w sign u v s one e = cancel_image w u v one (cancel_multiple (sign *ℤ determinant w) (image w u) (image w v) both e)
+one_natural : (m n : ℕ) → m * n ≡ 1 → m ≡ 1
+one_natural zero n e = absurd (omega (arith, e))
+one_natural (suc zero) n e = refl
+one_natural (suc (suc m)) zero e = absurd (omega (arith, e))
+one_natural (suc (suc m)) (suc n) e =
+    let more : suc (suc m) * 1 ≤ suc (suc m) * suc n = mul-le-mul_left (suc (suc m)) (omega arith) in
+    absurd (omega (arith, e, more))
+
+-- an integer with an inverse has the square 1
+pub unit_of_product : (h x : ℤ) → h *ℤ x ≡ pos 1 → h *ℤ h ≡ pos 1
+unit_of_product h x e = by h (one_natural (unsigned_abs h) (unsigned_abs x) (sym (unsigned_abs-mul h x) ∙ ap unsigned_abs e))
   where
-    both : (sign *ℤ determinant w) *ℤ (sign *ℤ determinant w) ≡ pos 1
-    both = axial_squared sign (determinant w) s one
+    by : (h : ℤ) → unsigned_abs h ≡ 1 → h *ℤ h ≡ pos 1
+    by (pos zero) p = absurd (cc p)
+    by (pos (suc zero)) p = refl
+    by (pos (suc (suc n))) p = absurd (cc p)
+    by (negsuc zero) p = refl
+    by (negsuc (suc n)) p = absurd (cc p)

@@ -11,11 +11,12 @@ use Rattle.crystal_spec.specs.Matrices.{Matrix, Triple, determinant, adjugate, i
 use Rattle.crystal_spec.specs.Crystals.{Site, Structure, IsPositive, Occupied, KeepsMetric, Keeps, position_after, moment_after}
 use Rattle.crystal_spec.proofs.Entrywise.{triple_same}
 use Rattle.crystal_spec.proofs.Identities.{by_integers, by_triples}
-use Rattle.crystal_spec.proofs.Isometries.{determinant-isometry, cancel_image, cancel_moment}
+use Rattle.crystal_spec.proofs.Isometries.{determinant-isometry, cancel_image}
+use Rattle.crystal_spec.proofs.Moments.{cancel_moment}
 
 -- each atom is carried to an occupied position
 abbrev pub HasImages : Structure → Matrix → Triple → ℤ → Type 0
-HasImages c w t sign = (a : Site) → IsMember a c.sites → Occupied c a.species (position_after w t a.position) (moment_after w sign a.moment)
+HasImages c w t sign = (a : Site) → IsMember a c.sites → Occupied c a.species (position_after w t a.position) (moment_after c.kind w sign a.moment)
 
 -- where an atom comes from
 pub record ComesFrom (c : Structure) (w : Matrix) (t : Triple) (sign : ℤ) (a : Site) : Type 0 where
@@ -24,7 +25,7 @@ pub record ComesFrom (c : Structure) (w : Matrix) (t : Triple) (sign : ℤ) (a :
   pub cells : Triple
   pub occupied : Occupied c a.species position moment
   pub onto : position_after w t position ≡ sum_of a.position (multiple (pos c.n) cells)
-  pub as_moment : moment_after w sign moment ≡ a.moment
+  pub as_moment : moment_after c.kind w sign moment ≡ a.moment
 
 abbrev pub HasPreimages : Structure → Matrix → Triple → ℤ → Type 0
 HasPreimages c w t sign = (a : Site) → IsMember a c.sites → ComesFrom c w t sign a
@@ -83,26 +84,26 @@ same_cells w t p p' a d d' n one e e' = cancel_image w p (sum_of p' (multiple n 
 pub keeps_both_ways : (c : Structure) (w : Matrix) (t : Triple) (sign : ℤ) → IsPositive c.metric → sign *ℤ sign ≡ pos 1 → KeepsMetric c.metric w → HasImages c w t sign → HasPreimages c w t sign → Keeps c w t sign
 keeps_both_ways c w t sign p s k images preimages = record { metric = k; crystal = λ species position moment. (forth species position moment, back species position moment) }
   where
-    forth : (species : ℕ) (position moment : Triple) → Occupied c species position moment → Occupied c species (position_after w t position) (moment_after w sign moment)
+    forth : (species : ℕ) (position moment : Triple) → Occupied c species position moment → Occupied c species (position_after w t position) (moment_after c.kind w sign moment)
     forth species position moment o =
         let i = images o.site o.of_cell in
         record {
           site = i.site;
           of_cell = i.of_cell;
           same_species = i.same_species ∙ o.same_species;
-          same_moment = i.same_moment ∙ ap (moment_after w sign) o.same_moment;
+          same_moment = i.same_moment ∙ ap (moment_after c.kind w sign) o.same_moment;
           cells = sum_of i.cells (image w o.cells);
           same_position = ap (position_after w t) o.same_position ∙ carried_cells w t o.site.position o.cells (pos c.n) ∙ ap (λ (v : Triple). sum_of v (multiple (pos c.n) (image w o.cells))) i.same_position ∙ two_cells i.site.position i.cells (image w o.cells) (pos c.n);
         }
 
-    back : (species : ℕ) (position moment : Triple) → Occupied c species (position_after w t position) (moment_after w sign moment) → Occupied c species position moment
+    back : (species : ℕ) (position moment : Triple) → Occupied c species (position_after w t position) (moment_after c.kind w sign moment) → Occupied c species position moment
     back species position moment o =
         let f = preimages o.site o.of_cell in
         let q = f.occupied in
         let one = determinant-isometry c.metric w p k in
         let r = multiple (determinant w) (image (adjugate w) (difference o.cells f.cells)) in
         let is = same_cells w t position f.position o.site.position o.cells f.cells (pos c.n) one o.same_position f.onto in
-        let m = cancel_moment w sign f.moment moment s one (f.as_moment ∙ o.same_moment) in
+        let m = cancel_moment c.kind w sign f.moment moment s one (f.as_moment ∙ o.same_moment) in
         record {
           site = q.site;
           of_cell = q.of_cell;

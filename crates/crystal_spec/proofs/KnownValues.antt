@@ -1,12 +1,14 @@
 -- The definitions at a few values: axial moments, positions, isometries, occupied positions, the order of operations.
 use Rattle.std.proofs.Common.{◌≡◌, refl, inl, [], ◌∷◌, arith}
-use Rattle.std.specs.Prelude.{ℤ, pos, negsuc}
+use Rattle.std.specs.Prelude.{ℤ, pos, negsuc, Bool, true, false}
 use Rattle.std.specs.declared.cmp.Ordering.TheVariants.{Less, Equal, Greater}
 use Rattle.std.proofs.lemmas.Int.{ints}
 use Rattle.crystal_spec.specs.declared.Sign.{Sign}
 use Rattle.crystal_spec.specs.declared.Sign.TheVariants.{Same, Reversed}
 use Rattle.crystal_spec.specs.Increasing.{inserted}
 use Rattle.crystal_spec.specs.Matrices.{Triple, Matrix, determinant, identity}
+use Rattle.crystal_spec.specs.declared.MomentKind.{MomentKind}
+use Rattle.crystal_spec.specs.Moments.{axial_vectors, axial_factor, turn_matrix, moment_matrix}
 use Rattle.crystal_spec.specs.Crystals.{Structure, IsPositive, Occupied, KeepsMetric, position_after, moment_after}
 use Rattle.crystal_spec.specs.Operations.{Operation, compare_of, sign_factor}
 
@@ -31,16 +33,30 @@ positions : position_after quarter_turn (at (pos 1) (pos 0) (pos 2)) (at (pos 3)
 positions = refl
 
 -- the inversion leaves an axial vector as it is
-moment_under_inversion : moment_after inversion (pos 1) (at (pos 1) (pos 2) (pos 3)) ≡ at (pos 1) (pos 2) (pos 3)
+moment_under_inversion : moment_after axial_vectors inversion (pos 1) (at (pos 1) (pos 2) (pos 3)) ≡ at (pos 1) (pos 2) (pos 3)
+unfolding moment_matrix axial_factor turn_matrix
 moment_under_inversion = refl
 
 -- a mirror plane perpendicular to c leaves a moment along c, and turns one along a round
-moment_under_mirror : (moment_after (diagonal (pos 1) (pos 1) (negsuc 0)) (pos 1) (at (pos 0) (pos 0) (pos 1)) ≡ at (pos 0) (pos 0) (pos 1)) × (moment_after (diagonal (pos 1) (pos 1) (negsuc 0)) (pos 1) (at (pos 1) (pos 0) (pos 0)) ≡ at (negsuc 0) (pos 0) (pos 0))
+moment_under_mirror : (moment_after axial_vectors (diagonal (pos 1) (pos 1) (negsuc 0)) (pos 1) (at (pos 0) (pos 0) (pos 1)) ≡ at (pos 0) (pos 0) (pos 1)) × (moment_after axial_vectors (diagonal (pos 1) (pos 1) (negsuc 0)) (pos 1) (at (pos 1) (pos 0) (pos 0)) ≡ at (negsuc 0) (pos 0) (pos 0))
+unfolding moment_matrix axial_factor turn_matrix
 moment_under_mirror = (refl, refl)
 
 -- a half turn about a turns a moment along c round, and with time reversal leaves it
-moment_under_half_turn : (moment_after (diagonal (pos 1) (negsuc 0) (negsuc 0)) (sign_factor Same) (at (pos 0) (pos 0) (pos 1)) ≡ at (pos 0) (pos 0) (negsuc 0)) × (moment_after (diagonal (pos 1) (negsuc 0) (negsuc 0)) (sign_factor Reversed) (at (pos 0) (pos 0) (pos 1)) ≡ at (pos 0) (pos 0) (pos 1))
+moment_under_half_turn : (moment_after axial_vectors (diagonal (pos 1) (negsuc 0) (negsuc 0)) (sign_factor Same) (at (pos 0) (pos 0) (pos 1)) ≡ at (pos 0) (pos 0) (negsuc 0)) × (moment_after axial_vectors (diagonal (pos 1) (negsuc 0) (negsuc 0)) (sign_factor Reversed) (at (pos 0) (pos 0) (pos 1)) ≡ at (pos 0) (pos 0) (pos 1))
+unfolding moment_matrix axial_factor turn_matrix
 moment_under_half_turn = (refl, refl)
+
+-- the other kinds: the inversion turns round a vector that is not axial, and a scalar that is; a mirror plane leaves a scalar
+abbrev of_kind : Bool → Bool → MomentKind
+of_kind vector axial = record { vector = vector; axial = axial }
+
+other_kinds : (moment_after (of_kind true false) inversion (pos 1) (at (pos 1) (pos 2) (pos 3)) ≡ at (negsuc 0) (negsuc 1) (negsuc 2))
+    × (moment_after (of_kind false true) inversion (pos 1) (at (pos 1) (pos 0) (pos 0)) ≡ at (negsuc 0) (pos 0) (pos 0))
+    × (moment_after (of_kind false false) inversion (pos 1) (at (pos 1) (pos 0) (pos 0)) ≡ at (pos 1) (pos 0) (pos 0))
+    × (moment_after (of_kind false false) (diagonal (negsuc 0) (pos 1) (pos 1)) (negsuc 0) (at (pos 1) (pos 0) (pos 0)) ≡ at (negsuc 0) (pos 0) (pos 0))
+unfolding moment_matrix axial_factor turn_matrix
+other_kinds = (refl, refl, refl, refl)
 
 -- a quarter turn is an isometry of a square metric tensor
 quarter_turn_keeps : KeepsMetric (diagonal (pos 4) (pos 4) (pos 9)) quarter_turn
@@ -58,6 +74,7 @@ doubled = record {
   metric = identity;
   n = 2;
   k = 1;
+  kind = axial_vectors;
   sites = record { species = 0; position = at (pos 0) (pos 0) (pos 1); moment = at (pos 0) (pos 0) (negsuc 0) } ∷ [];
 }
 

@@ -1,6 +1,8 @@
 pub mod Entrywise
 pub mod Identities
+pub mod MatrixLaws
 pub mod Isometries
+pub mod Moments
 pub mod Counting
 pub mod Keeping
 pub mod Images

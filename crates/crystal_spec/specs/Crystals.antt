@@ -1,15 +1,17 @@
 -- A magnetic crystal: the infinite periodic set of atoms that a cell stands for, and the maps that keep it.
 --   Site                  an atom of a cell: its species, position and moment
---   Structure             a cell: names of species, metric tensor, units and atoms
+--   Structure             a cell: names of species, metric tensor, units, kind of moments and atoms
 --   IsPositive g          the three leading minors of g are positive, as those of a metric tensor are
 --   Occupied c s p m      the infinite crystal has an atom of species s with moment m at position p
 --   KeepsMetric g w       w is an isometry of the metric g: wᵀ g w = g
 --   position_after w t p  where the map of matrix w and translation t takes the position p
---   moment_after w s m    the moment that the map of matrix w and time sign s makes of m, as an axial vector
+--   moment_after kind w s m   the moment of this kind that the map of matrix w and time sign s makes of m
 --   Keeps c w t s         the map keeps the metric and carries the infinite crystal onto itself
 use Rattle.std.specs.Prelude.{◌≡◌, ◌↔◌, ℕ, ℤ, pos, ◌-ℤ◌, ◌*ℤ◌, ◌<ℤ◌, List}
+use Rattle.crystal_spec.specs.declared.MomentKind.{MomentKind}
 use Rattle.crystal_spec.specs.Increasing.{IsMember}
 use Rattle.crystal_spec.specs.Matrices.{Triple, Matrix, product, image, transposed, determinant, multiple, sum_of}
+use Rattle.crystal_spec.specs.Moments.{moment_matrix}
 
 -- an atom of a cell: its species, its position in units of 1/n, its moment in units of 1/k, both along the axes
 pub record Site : Type 0 where
@@ -24,6 +26,7 @@ pub record Structure : Type 0 where
   pub metric : Matrix
   pub n : ℕ
   pub k : ℕ
+  pub kind : MomentKind
   pub sites : List Site
 
 -- the three leading minors are positive
@@ -50,12 +53,12 @@ KeepsMetric g w = product (transposed w) (product g w) ≡ g
 abbrev pub position_after : Matrix → Triple → Triple → Triple
 position_after w t p = sum_of (image w p) t
 
--- the moment m goes to sign · det(w) · w m
-abbrev pub moment_after : Matrix → ℤ → Triple → Triple
-moment_after w sign m = multiple (sign *ℤ determinant w) (image w m)
+-- the moment m goes to its image under the matrix of its kind: sign · det(w) · w m for axial vectors
+abbrev pub moment_after : MomentKind → Matrix → ℤ → Triple → Triple
+moment_after kind w sign m = image (moment_matrix kind w sign) m
 
 -- For all species, positions and moments, an atom is there exactly where one of the same species with the carried
 -- moment is at the carried position.
 pub record Keeps (c : Structure) (w : Matrix) (t : Triple) (sign : ℤ) : Type 0 where
   pub metric : KeepsMetric c.metric w
-  pub crystal : (species : ℕ) (position moment : Triple) → Occupied c species position moment ↔ Occupied c species (position_after w t position) (moment_after w sign moment)
+  pub crystal : (species : ℕ) (position moment : Triple) → Occupied c species position moment ↔ Occupied c species (position_after w t position) (moment_after c.kind w sign moment)

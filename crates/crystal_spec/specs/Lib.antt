@@ -1,4 +1,5 @@
 pub mod Increasing
 pub mod Matrices
+pub mod Moments
 pub mod Crystals
 pub mod Operations

@@ -7,7 +7,8 @@
 --   multiple k v      k times a column
 --   sum_of u v        the sum of two columns
 --   difference u v    the difference of two columns
-use Rattle.std.specs.Prelude.{ℤ, pos}
+--   matrix_multiple k a   k times a matrix
+use Rattle.std.specs.Prelude.{ℤ, pos, ◌*ℤ◌}
 use Rattle.ring.specs.Ring.{int_ops}
 use Rattle.matrix3.specs.declared.vector.Vec3.{Vec3}
 use Rattle.matrix3.specs.declared.matrix.Mat3.{Mat3}
@@ -45,3 +46,6 @@ sum_of u v = formulas.sum_of int_ops u v
 
 abbrev pub difference : Triple → Triple → Triple
 difference u v = formulas.difference int_ops u v
+
+abbrev pub matrix_multiple : ℤ → Matrix → Matrix
+matrix_multiple k a = formulas.matrix_map (λ x. k *ℤ x) a

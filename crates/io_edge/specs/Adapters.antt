@@ -10,7 +10,8 @@ pub record ReaderSource (R : Type 0) : Type 0 where
   pub faults : ℕ
   pub end_is_seen : Bool
 
--- the writer, and how often writing failed
+-- the writer, how often writing failed, and whether the last write did
 pub record WriterSink (W : Type 0) : Type 0 where
   pub writer : W
   pub faults : ℕ
+  pub last_failed : Bool

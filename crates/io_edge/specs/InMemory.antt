@@ -37,12 +37,13 @@ pub record MemorySource : Type 0 where
   pub faults : ℕ
   pub end_is_seen : Bool
 
--- the bytes that are held, the most that one call takes, the calls, and how many of them failed
+-- the bytes that are held, the most that one call takes, the calls, how many of them failed, and whether the last one did
 pub record MemorySink : Type 0 where
   pub held : List ℕ
   pub most : ℕ
   pub calls : CallPlan
   pub faults : ℕ
+  pub last_failed : Bool
 
 -- what is left of the 4 MiB that a sink over memory has when it is made
 abbrev pub room_left : MemorySink → ℕ

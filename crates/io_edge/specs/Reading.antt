@@ -1,6 +1,7 @@
 -- What reading to the end says.
---   ReadsAll   all bytes up to the end of input, or why not
---   GivesUp    the cause of each refusal, and how many bytes were taken before it
+--   ReadsAll      all bytes up to the end of input, or why not
+--   GivesUp       the cause of each refusal, and how many bytes were taken before it
+--   TakesAtMost   however it ended, no more than so many bytes were taken
 -- Our own.
 use Rattle.std.specs.Prelude.{◌≡◌, ℕ, ◌+◌, ◌≤◌, Bool, true, false, List, length, MatchResult}
 use Rattle.std.specs.declared.option.Option.{Option}
@@ -12,15 +13,21 @@ use Rattle.io_edge.specs.declared.source.InFault.TheVariants.{ReadFault, TooLong
 
 -- Why reading gave up once it had taken these bytes: the source failed within the limit, or one byte past the limit came
 -- before an end or a fault, and in both cases no end is seen; or memory was wanted. Never is more than that taken.
-abbrev pub GivesUp : ℕ → ℕ → ℕ → Bool → List ℕ → InFault → Type 0
-GivesUp limit before now end taken ReadFault = (length taken ≤ limit) × Rose before now × (end ≡ false)
-GivesUp limit before now end taken TooLong = (length taken ≡ limit + 1) × (end ≡ false)
-GivesUp limit before now end taken Memory = length taken ≤ limit + 1
+abbrev pub GivesUp : Option ℕ → ℕ → ℕ → ℕ → Bool → List ℕ → InFault → Type 0
+GivesUp highest limit before now end taken ReadFault = (length taken ≤ limit) × Rose highest before now × (end ≡ false)
+GivesUp highest limit before now end taken TooLong = (length taken ≡ limit + 1) × (end ≡ false)
+GivesUp highest limit before now end taken Memory = length taken ≤ limit + 1
 
 -- At Ok the result is all that was left, within the limit, nothing is left now, and the end is seen. A refusal took some
 -- of the first bytes that were left, and has its cause. `left` and `left'` are the bytes left before and after, `before`
--- and `now` the counts of faults, and `end` whether an end is seen after.
-abbrev pub ReadsAll : ℕ → Option (List ℕ) → Option (List ℕ) → ℕ → ℕ → Bool → Result (List ℕ) InFault → Type 0
-ReadsAll limit left left' before now end result = MatchResult result
+-- and `now` the counts of faults, whose highest number is `highest`, and `end` is whether an end is seen after.
+abbrev pub ReadsAll : Option ℕ → ℕ → Option (List ℕ) → Option (List ℕ) → ℕ → ℕ → Bool → Result (List ℕ) InFault → Type 0
+ReadsAll highest limit left left' before now end result = MatchResult result
     (λ bytes. Consumes left left' bytes × IsAtEnd left' × (length bytes ≤ limit) × (end ≡ true))
-    (λ fault. (taken : List ℕ) × Consumes left left' taken × GivesUp limit before now end taken fault)
+    (λ fault. (taken : List ℕ) × Consumes left left' taken × GivesUp highest limit before now end taken fault)
+
+-- what was taken of the bytes left before, no more than so many, leaves those left after
+pub record TakesAtMost (most : ℕ) (left left' : Option (List ℕ)) : Type 0 where
+  pub taken : List ℕ
+  pub consumed : Consumes left left' taken
+  pub few : length taken ≤ most

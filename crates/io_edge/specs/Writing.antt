@@ -2,7 +2,7 @@
 --   WritesSome   one write took some bytes of the piece
 --   WritesAll    all the bytes went out, or how many did, and why not all
 -- Our own.
-use Rattle.std.specs.Prelude.{ℕ, ◌<◌, ◌≤◌, List, length, take, IfOk, MatchResult}
+use Rattle.std.specs.Prelude.{◌≡◌, ℕ, ◌<◌, ◌≤◌, Bool, true, List, length, take, IfOk, MatchResult}
 use Rattle.std.specs.declared.option.Option.{Option}
 use Rattle.std.specs.declared.result.Result.{Result}
 use Rattle.std.specs.Io.KnownBytes.{Appends}
@@ -13,9 +13,10 @@ use Rattle.io_edge.specs.declared.sink.OutFault.{OutFault}
 abbrev pub WritesSome : {E : Type 0} → Result ℕ E → List ℕ → Type 0
 WritesSome result piece = IfOk result (λ n. (0 < n) × (n ≤ length piece))
 
--- At Ok all the bytes were appended. At a fault exactly the first `written` bytes were, fewer than all, and the count of
--- faults rose. `held` and `held'` are the bytes held before and after, `before` and `now` the counts of faults.
-abbrev pub WritesAll : Option (List ℕ) → Option (List ℕ) → ℕ → ℕ → List ℕ → Result (Unit {0}) OutFault → Type 0
-WritesAll held held' before now bytes result = MatchResult result
+-- At Ok all the bytes were appended. At a fault exactly the first `written` bytes were, fewer than all, the last write
+-- failed, and the count of faults rose. `held` and `held'` are the bytes held before and after, `before` and `now` the counts
+-- of faults, whose highest number is `highest`, and `failed` is whether the last write failed.
+abbrev pub WritesAll : Option ℕ → Option (List ℕ) → Option (List ℕ) → ℕ → ℕ → Bool → List ℕ → Result (Unit {0}) OutFault → Type 0
+WritesAll highest held held' before now failed bytes result = MatchResult result
     (λ _. Appends held held' bytes)
-    (λ fault. (fault.written < length bytes) × Appends held held' (take fault.written bytes) × Rose before now)
+    (λ fault. (fault.written < length bytes) × Appends held held' (take fault.written bytes) × Rose highest before now × (failed ≡ true))

@@ -2,8 +2,8 @@
 //!
 //! A source or a sink has ghost members that contracts cite: how often it has failed, and, where
 //! it tells them, the bytes that are left or held. A failed call is answered only where that count
-//! rose, so no caller can blame a device that worked. A count is a number of 64 bits, and stays at
-//! the last of them.
+//! rose, so no caller can blame a device that worked. Each says whether its count has a highest
+//! number, at which it stays; a sink says also whether the last write failed.
 //!
 //! Definitions: `specs/Causes` (when a call may fail), `specs/Reading` and `specs/Writing` (what
 //! was taken and what went out), `specs/InMemory` (what the objects in memory do at each call),

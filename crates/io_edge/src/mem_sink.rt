@@ -1,5 +1,5 @@
 // A sink over memory.
-ghost use Rattle.std.specs.Prelude.{◌≡◌, ℕ, List, [], ◌+◌, ◌-◌, ◌^◌, ◌<◌, ◌≤◌, ◌↔◌, ◌⊎◌, min, length, Some, IsErr, IfOk, OnOk, OnErr};
+ghost use Rattle.std.specs.Prelude.{◌≡◌, ℕ, List, [], ◌+◌, ◌-◌, ◌^◌, ◌<◌, ◌≤◌, ◌↔◌, ◌⊎◌, min, length, false, Some, IsErr, is_err, IfOk, OnOk, OnErr};
 ghost use Rattle.std.specs.Io.KnownBytes.{WriteAppends};
 ghost use Rattle.io_edge.specs.Causes.{HasCause};
 ghost use Rattle.io_edge.specs.InMemory.{FailsNext, IsFull, after_call, new_plan, room_left};
@@ -21,6 +21,7 @@ pub struct MemSink {
     most: usize,
     calls: Calls,
     faults: u64,
+    last_failed: bool,
 }
 
 impl Model for MemSink {
@@ -35,6 +36,7 @@ impl Model for MemSink {
       most = s.most;
       calls = s.calls;
       faults = s.faults;
+      last_failed = s.last_failed;
     } };
 
     ghost invariant = { λ s. (0 < s.most)
@@ -53,6 +55,7 @@ impl MemSink {
         ensures most { IfOk result (λ sink. sink.most ≡ most) }
         ensures calls { IfOk result (λ sink. sink.calls ≡ new_plan fails.now) }
         ensures faults { IfOk result (λ sink. sink.faults ≡ 0) }
+        ensures failed { IfOk result (λ sink. sink.last_failed ≡ false) }
     {
         let bytes = Vec::with_capacity(alloc, ROOM)?;
         let calls = Calls::new(alloc, fails)?;
@@ -61,6 +64,7 @@ impl MemSink {
             most,
             calls,
             faults: 0,
+            last_failed: false,
         })
     }
 
@@ -77,12 +81,17 @@ impl Sink for MemSink {
 
     ghost faults = { λ s. s.faults };
 
+    ghost highest_count = { Some (2 ^ 64 - 1) };
+
+    ghost last_failed = { λ s. s.last_failed };
+
     /// Takes as many bytes as the piece, `most` and the room left allow.
     fn write(&mut self, piece: &[u8]) -> Result<usize, Failed>
         requires { 0 < length piece.now }
         ensures some { WritesSome result piece.now }
         ensures written { WriteAppends (Some self.old.held) (Some self.new.held) result piece.now }
-        ensures cause { HasCause self.old.faults self.new.faults result }
+        ensures cause { HasCause (Some (2 ^ 64 - 1)) self.old.faults self.new.faults result }
+        ensures failed { self.new.last_failed ≡ is_err result }
 
         // It fails exactly where the number of the call is in the list or it is full.
         ensures fails { IsErr result ↔ (FailsNext self.old.calls ⊎ IsFull self.old) }
@@ -98,11 +107,15 @@ impl Sink for MemSink {
         let room = ROOM - self.bytes.len();
         if is_to_fail || room == 0 {
             self.faults = self.faults.saturating_add(1);
+            self.last_failed = true;
             return Err(Failed);
         }
         let count = self.most.min(piece.len()).min(room);
         match self.bytes.extend_from_slice(&piece[..count]) {
-            Ok(()) => Ok(count),
+            Ok(()) => {
+                self.last_failed = false;
+                Ok(count)
+            }
             Err(_) => unreachable!(),
         }
     }

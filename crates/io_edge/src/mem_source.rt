@@ -1,5 +1,5 @@
 // A source over memory.
-ghost use Rattle.std.specs.Prelude.{◌≡◌, ℕ, List, [], ◌+◌, ◌<◌, ◌↔◌, min, length, false, Some, IsErr, IfOk, OnOk, OnErr};
+ghost use Rattle.std.specs.Prelude.{◌≡◌, ℕ, List, [], ◌+◌, ◌<◌, ◌↔◌, min, length, false, Some, None, IsErr, IfOk, OnOk, OnErr};
 ghost use Rattle.std.specs.Io.{ReadsAtMost};
 ghost use Rattle.std.specs.Io.KnownBytes.{ReadConsumes};
 ghost use Rattle.io_edge.specs.Causes.{HasCause, is_end};
@@ -74,6 +74,8 @@ impl Source for MemSource {
 
     ghost faults = { λ s. s.faults };
 
+    ghost highest_count = { None };
+
     ghost end_is_seen = { λ s. s.end_is_seen };
 
     /// Gives as many bytes as the buffer, `most` and what is left allow.
@@ -81,7 +83,7 @@ impl Source for MemSource {
         requires { 0 < length buf.old }
         ensures within { ReadsAtMost result buf.new }
         ensures taken { ReadConsumes (Some self.old.left) (Some self.new.left) result buf.new }
-        ensures cause { HasCause self.old.faults self.new.faults result }
+        ensures cause { HasCause None self.old.faults self.new.faults result }
         ensures end { self.new.end_is_seen ≡ is_end result }
 
         // It fails exactly where the number of the call is in the list, and counts that.

@@ -1,5 +1,5 @@
 // What bytes go to, and writing all of them.
-ghost use Rattle.std.specs.Prelude.{◌≡◌, ℕ, List, ◌<◌, ◌≤◌, length};
+ghost use Rattle.std.specs.Prelude.{◌≡◌, ℕ, Bool, List, ◌<◌, ◌≤◌, length, is_err};
 ghost use Rattle.std.specs.declared.option.Option.{Option};
 ghost use Rattle.std.specs.Io.KnownBytes.{WriteAppends};
 ghost use Rattle.io_edge.specs.Causes.{HasCause};
@@ -15,6 +15,12 @@ pub trait Sink {
     /// How often it has failed. This never falls.
     ghost faults: { Self → ℕ };
 
+    /// The highest number of that count, at which it stays; `None` where it counts on.
+    ghost highest_count: { Option ℕ };
+
+    /// Whether the last write failed.
+    ghost last_failed: { Self → Bool };
+
     /// Appends some first bytes of the piece, which isn't empty, at least one, and says how many.
     ///
     /// A device that takes none has failed. A failed write appends nothing.
@@ -22,7 +28,8 @@ pub trait Sink {
         requires { 0 < length piece.now }
         ensures some { WritesSome result piece.now }
         ensures written { WriteAppends (held self.old) (held self.new) result piece.now }
-        ensures cause { HasCause (faults self.old) (faults self.new) result };
+        ensures cause { HasCause highest_count (faults self.old) (faults self.new) result }
+        ensures failed { last_failed self.new ≡ is_err result };
 }
 
 /// A write failed, once these first bytes were out.
@@ -34,10 +41,12 @@ pub struct OutFault {
 
 /// Writes all the bytes, in order. It takes no memory.
 ///
-/// After a fault the first `written` bytes are out.
+/// After a fault the first `written` bytes are out, and the last write failed. Where there are no bytes the sink stays as it
+/// was.
 pub fn write_whole<K: Sink>(sink: &mut K, bytes: &[u8]) -> Result<(), OutFault>
-    ensures written { WritesAll (K.held sink.old) (K.held sink.new)
-        (K.faults sink.old) (K.faults sink.new) bytes.now result }
+    ensures written { WritesAll K.highest_count (K.held sink.old) (K.held sink.new)
+        (K.faults sink.old) (K.faults sink.new) (K.last_failed sink.new) bytes.now result }
+    ensures untouched { length bytes.now ≡ 0 → sink.new ≡ sink.old }
     ensures later { K.faults sink.old ≤ K.faults sink.new }
 {
     let mut at = 0usize;

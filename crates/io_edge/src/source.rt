@@ -4,7 +4,7 @@ ghost use Rattle.std.specs.declared.option.Option.{Option};
 ghost use Rattle.std.specs.Io.{ReadsAtMost};
 ghost use Rattle.std.specs.Io.KnownBytes.{ReadConsumes};
 ghost use Rattle.io_edge.specs.Causes.{HasCause, is_end};
-ghost use Rattle.io_edge.specs.Reading.{ReadsAll};
+ghost use Rattle.io_edge.specs.Reading.{ReadsAll, TakesAtMost};
 
 use crate::bytes::Bytes;
 use std::alloc::Global;
@@ -38,6 +38,9 @@ pub trait Source {
     /// How often it has failed. This never falls.
     ghost faults: { Self → ℕ };
 
+    /// The highest number of that count, at which it stays; `None` where it counts on.
+    ghost highest_count: { Option ℕ };
+
     /// Whether the last read saw the end of input.
     ghost end_is_seen: { Self → Bool };
 
@@ -48,7 +51,7 @@ pub trait Source {
         requires { 0 < length buf.old }
         ensures within { ReadsAtMost result buf.new }
         ensures taken { ReadConsumes (left self.old) (left self.new) result buf.new }
-        ensures cause { HasCause (faults self.old) (faults self.new) result }
+        ensures cause { HasCause highest_count (faults self.old) (faults self.new) result }
         ensures end { end_is_seen self.new ≡ is_end result };
 }
 
@@ -59,8 +62,9 @@ const CHUNK: usize = 4096;
 /// It takes no more than `limit + 1` bytes. What a refusal took is lost.
 pub fn read_to_end<S: Source>(alloc: Global, src: &mut S, limit: usize) -> Result<Bytes, InFault>
     requires { limit + 1 < 2 ^ 64 }
-    ensures taken { ReadsAll limit (S.left src.old) (S.left src.new)
+    ensures taken { ReadsAll S.highest_count limit (S.left src.old) (S.left src.new)
         (S.faults src.old) (S.faults src.new) (S.end_is_seen src.new) result }
+    ensures at_most { TakesAtMost (limit + 1) (S.left src.old) (S.left src.new) }
     ensures later { S.faults src.old ≤ S.faults src.new }
 {
     let mut bytes = Bytes::new(alloc);

@@ -1,5 +1,5 @@
 // A source over a reader of std.
-ghost use Rattle.std.specs.Prelude.{◌≡◌, ◌+◌, ◌-◌, ◌^◌, ◌<◌, min, length, false, None, OnOk, OnErr};
+ghost use Rattle.std.specs.Prelude.{◌≡◌, ◌+◌, ◌-◌, ◌^◌, ◌<◌, min, length, false, Some, None, OnOk, OnErr};
 ghost use Rattle.std.specs.Io.{ReadsAtMost};
 ghost use Rattle.std.specs.Io.KnownBytes.{ReadConsumes};
 ghost use Rattle.io_edge.specs.Causes.{HasCause, is_end};
@@ -44,6 +44,8 @@ impl<R: Read + Drop> Source for StdSource<R> {
 
     ghost faults = { λ s. s.faults };
 
+    ghost highest_count = { Some (2 ^ 64 - 1) };
+
     ghost end_is_seen = { λ s. s.end_is_seen };
 
     /// Reads once from the reader, whose bytes it gives.
@@ -52,7 +54,7 @@ impl<R: Read + Drop> Source for StdSource<R> {
         ensures within { ReadsAtMost result buf.new }
         ensures taken { ReadConsumes (R.remaining self.old.reader) (R.remaining self.new.reader)
             result buf.new }
-        ensures cause { HasCause self.old.faults self.new.faults result }
+        ensures cause { HasCause (Some (2 ^ 64 - 1)) self.old.faults self.new.faults result }
         ensures end { self.new.end_is_seen ≡ is_end result }
         ensures rises { OnErr result (self.new.faults ≡ min (self.old.faults + 1) (2 ^ 64 - 1)) }
         ensures stays { OnOk result (self.new.faults ≡ self.old.faults) }

@@ -13,10 +13,11 @@ use Rattle.matrix3.specs.declared.vector.Vec3.{Vec3}
 use Rattle.matrix3.specs.Matrices.{coordinates, vector_of_variables, EachEntry}
 use Rattle.matrix3.specs.Matrices as formulas
 use Rattle.crystal_spec.specs.Increasing.{IsIncreasing, IsMember, inserted}
-use Rattle.crystal_spec.specs.Matrices.{Matrix, Triple}
+use Rattle.crystal_spec.specs.Matrices.{Matrix, Triple, transposed}
 use Rattle.crystal_spec.specs.Crystals.{KeepsMetric}
 use Rattle.crystal_spec.proofs.Entrywise.{matrix_same}
 use Rattle.crystal_spec.proofs.Ordered.{IsMember-inserted}
+use Rattle.lattice_spec.specs.Niggli.{HasShortAxes}
 use Rattle.lattice_spec.specs.Tensor.{Tensor, tensor_matrix}
 use Rattle.lattice_spec.proofs.Height.{tensor, listed}
 use Rattle.lattice_spec.proofs.Limits.{IsReduced}
@@ -124,10 +125,18 @@ abbrev pub tensor_of : Metric → Tensor ℤ
 tensor_of m = record { aa = m.aa; bb = m.bb; cc = m.cc; bc = m.bc; ac = m.ac; ab = m.ab }
 
 -- an isometry of it has entries of size at most 1
-pub isometry_entries : (s : Tensor ℤ) (w : Matrix) → IsReduced s → KeepsMetric (tensor_matrix s) w → EntriesAtMost 1 w
+isometry_entries : (s : Tensor ℤ) (w : Matrix) → IsReduced s → KeepsMetric (tensor_matrix s) w → EntriesAtMost 1 w
 isometry_entries s w reduced k =
     let e : EachEntry (AtMost 1) w = isometry_small s w reduced k in
     record { a11 = e.a11; a12 = e.a12; a13 = e.a13; a21 = e.a21; a22 = e.a22; a23 = e.a23; a31 = e.a31; a32 = e.a32; a33 = e.a33 }
+
+-- an isometry of a symmetric matrix that meets the main conditions has entries of size at most 1
+pub entries_of_short : (g w : Matrix) → transposed g ≡ g → HasShortAxes g → KeepsMetric g w → EntriesAtMost 1 w
+entries_of_short g w symmetric short k =
+    let s : Tensor ℤ = record { aa = g.a11; bb = g.a22; cc = g.a33; bc = g.a23; ac = g.a13; ab = g.a12 } in
+    let is : g ≡ tensor_matrix s =
+    matrix_same refl refl refl (sym (ap (λ (m : Matrix). m.a21) symmetric)) refl refl (sym (ap (λ (m : Matrix). m.a31) symmetric)) (sym (ap (λ (m : Matrix). m.a32) symmetric)) refl in
+    isometry_entries s w short (subst (λ (m : Matrix). KeepsMetric m w) is k)
 
 -- the matrix g of the metric tensor s, and a list that may be wanting for memory
 pub result_listed : {E : Type 0} (g : Matrix) (s : Tensor ℤ) (ts us vs : List Triple) (r : Result (List Matrix) E) → g ≡ tensor_matrix s → IsReduced s → ListsOfLength g g.a11 ts → ListsOfLength g g.a22 us → ListsOfLength g g.a33 vs → IfOk r (λ ws. IsIncreasing matrix_order ws) → IfOk r (λ ws. (w : Matrix) → IsMember w ws ↔ HasColumnsOf g ts us vs w) → IfOk r (λ ws. ListsIsometries (tensor_matrix s) ws)

@@ -1,8 +1,8 @@
 ghost use Rattle.std.specs.Prelude.{◌≡◌, ◌↔◌, ◌⊎◌, ◌^◌, IfOk, OnOk};
 ghost use Rattle.crystal_spec.specs.Increasing.{IsIncreasing, IsMember};
-ghost use Rattle.crystal_spec.specs.Matrices.{Matrix};
+ghost use Rattle.crystal_spec.specs.Matrices.{Matrix, transposed};
 ghost use Rattle.crystal_spec.specs.Crystals.{KeepsMetric};
-ghost use Rattle.lattice_spec.specs.Niggli.{IsNiggli};
+ghost use Rattle.lattice_spec.specs.Niggli.{HasShortAxes, IsNiggli};
 ghost use Rattle.crystal.specs.Views.{metric_of};
 ghost use Rattle.crystal.specs.Bounds.{EntriesAtMost, CoordinatesAtMost};
 ghost use Rattle.lattice_iso.specs.Isometries.{matrix_order, ListsIsometries};
@@ -123,14 +123,15 @@ fn all_of_columns(
 
 /// All isometries of a metric tensor, each once, in increasing order of their nine entries row by row.
 ///
-/// The metric tensor is that of a Niggli-reduced basis, with entries up to 10^16. Each isometry has entries -1, 0 and 1,
-/// so its columns are among 26, and those of the squared lengths A, B and C are tried. Refuses for want of memory alone.
+/// The metric tensor is that of a Niggli-reduced basis, with entries up to 10^16. Each isometry has entries -1, 0 and 1, as
+/// it has for every metric tensor that meets the main conditions, so its columns are among 26, and those of the squared
+/// lengths A, B and C are tried. Refuses for want of memory alone.
 pub fn isometries(alloc: Global, metric: &Metric) -> Result<Isos, AllocError>
     requires niggli { IsNiggli (metric_of metric.now) }
     requires small { EntriesAtMost (10 ^ 16) (metric_of metric.now) }
     ensures exact { IfOk result (λ list. ListsIsometries (metric_of metric.now) list) }
     ensures small { IfOk result (λ list. (w : Matrix) → IsMember w list → EntriesAtMost 1 w) }
-    ensures entries { (w : Matrix) → KeepsMetric (metric_of metric.now) w → EntriesAtMost 1 w }
+    ensures entries { (g w : Matrix) → transposed g ≡ g → HasShortAxes g → KeepsMetric g w → EntriesAtMost 1 w }
 {
     let g = metric.matrix();
     let first = columns_of_length(alloc, &g, g.a11)?;

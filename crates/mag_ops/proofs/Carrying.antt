@@ -17,11 +17,10 @@ use Rattle.crystal_spec.specs.Operations.{Operation, IsWithinCell, IsSymmetryOpe
 use Rattle.crystal_spec.proofs.Entrywise.{matrix_same}
 use Rattle.crystal_spec.proofs.Identities.{by_integers}
 use Rattle.lattice_spec.specs.Niggli.{IsNiggli}
-use Rattle.lattice_spec.specs.Tensor.{Tensor, tensor_matrix}
 use Rattle.crystal.specs.Bounds.{EntriesAtMost, CoordinatesAtMost}
 use Rattle.crystal.specs.Cells.{IsSymmetric}
 use Rattle.lattice_iso.specs.Columns.{AnyOf}
-use Rattle.lattice_iso.proofs.ByColumns.{isometry_entries}
+use Rattle.lattice_iso.proofs.ByColumns.{entries_of_short}
 use Rattle.lattice_iso.proofs.Members.{IsMember-pushed, any_all, only_left}
 use Rattle.basis_spec.specs.Positions.{triple, residue}
 use Rattle.basis_spec.specs.Metrics.{matrix_multiple}
@@ -286,6 +285,4 @@ symmetry_of_group c os (inr same) o m = ((same.exact o).0 m).0
 -- an isometry of a Niggli-reduced metric tensor has entries -1, 0 and 1
 pub reduced_isometry_small : (g w : Matrix) → IsNiggli g → IsSymmetric g → KeepsMetric g w → EntriesAtMost 1 w
 reduced_isometry_small g w niggli symmetric keeps =
-    let s : Tensor ℤ = record { aa = g.a11; bb = g.a22; cc = g.a33; bc = g.a23; ac = g.a13; ab = g.a12 } in
-    let is : g ≡ tensor_matrix s = matrix_same refl refl refl symmetric.ab refl refl symmetric.ac symmetric.bc refl in
-    isometry_entries s w niggli.main (subst (λ (m : Matrix). KeepsMetric m w) is keeps)
+    entries_of_short g w (matrix_same refl symmetric.ab symmetric.ac (sym symmetric.ab) refl symmetric.bc (sym symmetric.ac) (sym symmetric.bc) refl) niggli.main keeps

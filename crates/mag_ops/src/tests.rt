@@ -10,7 +10,7 @@ ghost use Rattle.crystal.specs.Bounds.{EntriesAtMost, CoordinatesAtMost};
 ghost use Rattle.prim_cell.specs.Sizes.{HasSizesOfRead};
 
 use crate::full_group;
-use crystal::{Atom, Cell, Metric, Name, Places, Steps};
+use crystal::{Atom, Cell, Metric, MomentKind, Name, Places, Steps};
 use exact_num::Int;
 use matrix3::Vec3;
 use prim_cell::{Primitive, primitive};
@@ -114,7 +114,11 @@ fn one_atom(alloc: Global, axes: Axes, moment: [i8; 3]) -> Result<Cell, Fail>
 {
     let name = Name::new(b"Mn").ok_or("Mn is no name")?;
     let first = atom([0, 0, 0], moment);
-    let cell = Cell::build(alloc, whole(1), metric(axes), 2, 1, name, first)?;
+    let kind = MomentKind {
+        vector: true,
+        axial: true,
+    };
+    let cell = Cell::build(alloc, whole(1), metric(axes), 2, 1, kind, name, first)?;
     Ok(cell)
 }
 
@@ -125,6 +129,9 @@ fn put_in_the_middle(alloc: Global, cell: &mut Cell, moment: [i8; 3]) -> Result<
 {
     if cell.n() != 2 || cell.names() == 0 || cell.count() >= 512 {
         return Err(Fail::new("no atom can be there"));
+    }
+    if !cell.kind().vector {
+        return Err(Fail::new("the moments are scalars"));
     }
     let places = Places::new(alloc, cell)?;
     if places.occupant([1, 1, 1]).is_some() {

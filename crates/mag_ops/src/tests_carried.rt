@@ -6,7 +6,7 @@ ghost use Rattle.crystal.specs.Bounds.{EntriesAtMost, CoordinatesAtMost};
 ghost use Rattle.prim_cell.specs.Sizes.{HasSizesOfRead};
 
 use crate::{full_group, in_cell};
-use crystal::{Atom, Cell, Metric, Name, Steps};
+use crystal::{Atom, Cell, Metric, MomentKind, Name, Steps};
 use exact_num::Int;
 use matrix3::Vec3;
 use prim_cell::primitive;
@@ -62,7 +62,11 @@ fn doubled(alloc: Global, moment: [i8; 3]) -> Result<Cell, Fail>
 {
     let manganese = Name::new(b"Mn").ok_or("Mn is no name")?;
     let first = atom([0, 0, 0], moment);
-    let mut cell = Cell::build(alloc, whole(1), axes(), 2, 1, manganese, first)?;
+    let kind = MomentKind {
+        vector: true,
+        axial: true,
+    };
+    let mut cell = Cell::build(alloc, whole(1), axes(), 2, 1, kind, manganese, first)?;
     cell.add(atom([1, 0, 0], moment))?;
     Ok(cell)
 }

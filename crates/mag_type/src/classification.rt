@@ -1,6 +1,6 @@
 // The type of a magnetic space group, and the orders of its family group and of its maximal space subgroup.
 
-ghost use Rattle.std.specs.Prelude.{◌≡◌, ◌↔◌, map, count_by, IsTrue};
+ghost use Rattle.std.specs.Prelude.{◌≡◌, ◌↔◌, ℕ, map, count_by, IsTrue};
 ghost use Rattle.std.specs.List.{list_all};
 ghost use Rattle.crystal_spec.specs.Matrices.{identity as identity_matrix};
 ghost use Rattle.op_group.specs.Views.{operation_of, translation_of};
@@ -144,6 +144,7 @@ pub fn classify(list: &OpList) -> Kind
     ensures family { IsNumberOf (IsInFamily list.now.operations) result.family }
     ensures unprimed { IsNumberOf (IsUnprimed list.now.operations) result.unprimed }
     ensures kind { IsMagneticType list.now.operations result.kind }
+    ensures only { (k : ℕ) → IsMagneticType list.now.operations k → k ≡ result.kind }
 {
     let _form = list.count();
     Kind {

@@ -5,3 +5,5 @@ pub mod OptionLemmas
 mod OptionOrder
 pub mod SpelledSizes
 pub mod Listed
+pub mod OneReport
+mod KnownValues

@@ -1,8 +1,8 @@
 -- The sizes of a cell that a cell file spells. No line breaks a rule, so behind each line the metric tensors that were given
 -- have scales and entries up to 10^9, and the moments have sizes up to 10^9 in units of 1/k. There are no more names than
 -- atoms.
-use Rattle.std.proofs.Common.{◌≡◌, ℕ, zero, suc, ◌+◌, ◌^◌, ◌≤◌, Bool, true, false, List, [], ◌∷◌, ◌++◌, length, map, get_or, Option, Some, None, inl, inr, refl, sym, ap, subst, ◌∙◌, arith, append_assoc, append-nil}
-use Rattle.std.specs.Prelude.{pos, ◌&&◌, ◌||◌, not, ◌==◌, nat_le, if◌then◌else◌}
+use Rattle.std.proofs.Common.{◌≡◌, ℕ, ◌^◌, ◌≤◌, Bool, true, false, List, [], ◌∷◌, ◌++◌, length, map, get_or, None, inl, inr, refl, sym, ap, subst, ◌∙◌, arith, append-nil}
+use Rattle.std.specs.Prelude.{pos, nat_le}
 use Rattle.std.specs.List.{list_all}
 use Rattle.std.proofs.lemmas.Bool.{leb-true, and_parts}
 use Rattle.std.proofs.lemmas.Int.{ints}
@@ -12,16 +12,14 @@ use Rattle.crystal_spec.specs.Crystals.{Site, Structure}
 use Rattle.crystal_spec.specs.Increasing.{IsMember}
 use Rattle.crystal.specs.Bounds.{EntriesAtMost, CoordinatesAtMost}
 use Rattle.crystal.specs.Cells.{IsCell}
-use Rattle.cell_text.specs.declared.fault.CellFault.{CellFault}
-use Rattle.cell_text.specs.declared.fault.CellFault.TheVariants.{BadByte, BadLine, MetricTwice, MetricMissing, MetricRange, NotPositive, PositionRange, MomentRange, TooManyAtoms, NoAtom, AfterEnd}
 use Rattle.cell_text.specs.Text.{lines}
-use Rattle.cell_text.specs.Numbers.{Fraction, common_denominator, scaled, when, first_of, number_fault}
-use Rattle.cell_text.specs.Lines.{is_metric_line, is_atom_line, is_end_line, is_skipped, has_bad_byte, number_words}
-use Rattle.cell_text.specs.Entries.{AtomLine, ScaledMetric, Contents, atom_of, metric_of, metric_values, scale_of_line, scaled_at, contents, moments, is_billion, is_metric_in_range, is_positive, are_positions_in_range, are_moments_in_range, one_if}
-use Rattle.cell_text.specs.Rules.{same_place, later_fault, judged, fault_after, first_fault, cell_fault}
+use Rattle.cell_text.specs.Numbers.{Fraction, common_denominator, scaled}
+use Rattle.cell_text.specs.Lines.{is_metric_line, is_atom_line}
+use Rattle.cell_text.specs.Entries.{AtomLine, ScaledMetric, Contents, atom_of, metric_of, metric_values, scale_of_line, scaled_at, contents, moments, is_billion, is_metric_in_range, are_moments_in_range, one_if}
+use Rattle.cell_text.specs.Rules.{later_fault, cell_fault}
 use Rattle.cell_text.specs.Views.{with_line}
 use Rattle.cell_text.specs.CellFile.{Spells, cell_with, names_of, site_of, no_metric}
-use Rattle.cell_text.proofs.Judging.{heading-other, heading-passed, skipped-other, with-other, contents-more}
+use Rattle.cell_text.proofs.PassedLines.{metric_fits, moments_fit, text_holds}
 use Rattle.cell_text.proofs.MetricLines.{at_most, six}
 use Rattle.cell_text.proofs.NameLemmas.{names_at_most}
 use Rattle.prim_cell.specs.Sizes.{HasSizesOfRead}
@@ -61,43 +59,6 @@ metrics-append (x ∷ ms) m small one = (small.0, metrics-append ms m small.1 on
 
 -- ---- a line that breaks no rule
 
--- the rules of a later line, in order
-abbrev later_faults : Contents → List ℕ → List (Option CellFault)
-later_faults before line =
-    when (has_bad_byte line) BadByte
-    ∷ when before.ended AfterEnd
-    ∷ when (not (is_metric_line line || is_atom_line line || is_end_line line)) BadLine
-    ∷ when (is_metric_line line && not (length before.metrics == 0)) MetricTwice
-    ∷ when (is_atom_line line && nat_le 512 (length before.atoms)) TooManyAtoms
-    ∷ first_of (map number_fault (number_words line))
-    ∷ when (is_metric_line line && not (is_metric_in_range line)) MetricRange
-    ∷ when (is_metric_line line && not (is_positive (metric_of line).entries)) NotPositive
-    ∷ when (is_atom_line line && not (are_positions_in_range (before.atoms ++ atom_of line ∷ []))) PositionRange
-    ∷ when (is_atom_line line && not (are_moments_in_range (before.atoms ++ atom_of line ∷ []))) MomentRange
-    ∷ (if is_atom_line line then same_place before.atoms (atom_of line) else None)
-    ∷ when (is_end_line line && length before.metrics == 0) MetricMissing
-    ∷ when (is_end_line line && length before.atoms == 0) NoAtom
-    ∷ []
-
-all_none : (fs : List (Option CellFault)) (i : ℕ) → first_of fs ≡ None → get_or fs i None ≡ None
-all_none [] i e = refl
-all_none (None ∷ fs) zero e = refl
-all_none (None ∷ fs) (suc i) e = all_none fs i e
-all_none (Some f ∷ fs) i e = absurd cc
-
-kept : (b r : Bool) (f : CellFault) → when (b && not r) f ≡ None → b ≡ true → r ≡ true
-kept true true f e h = refl
-kept true false f e h = absurd cc
-kept false r f e h = absurd cc
-
-metric_fits : (held : Contents) (line : List ℕ) → later_fault held line ≡ None → is_metric_line line ≡ true → is_metric_in_range line ≡ true
-unfolding later_fault
-metric_fits held line e = kept (is_metric_line line) (is_metric_in_range line) MetricRange (all_none (later_faults held line) 6 e)
-
-moments_fit : (held : Contents) (line : List ℕ) → later_fault held line ≡ None → is_atom_line line ≡ true → are_moments_in_range (held.atoms ++ atom_of line ∷ []) ≡ true
-unfolding later_fault
-moments_fit held line e = kept (is_atom_line line) (are_moments_in_range (held.atoms ++ atom_of line ∷ [])) MomentRange (all_none (later_faults held line) 9 e)
-
 metrics_with : (ms : List ScaledMetric) (line : List ℕ) (b : Bool) → AreSmallMetrics ms → (b ≡ true → is_metric_in_range line ≡ true) → AreSmallMetrics (ms ++ one_if b (metric_of line))
 metrics_with ms line true small fits = metrics-append ms (metric_of line) small (metric_small line (fits refl))
 metrics_with ms line false small fits = subst AreSmallMetrics (sym (append-nil ms)) small
@@ -112,42 +73,14 @@ later_small held line e small = record {
   moments = moments_with held.atoms line (is_atom_line line) small.moments (moments_fit held line e);
 }
 
-line_small : (n : ℕ) (held : Contents) (line : List ℕ) → judged n held line ≡ None → HoldsSmall held → HoldsSmall (with_line held line)
-unfolding judged
-line_small zero held line e small = subst HoldsSmall (sym (with-other held line (heading-other line (heading-passed line e)))) small
-line_small (suc n) held line e small = by (is_skipped line) refl e
-  where
-    by : (b : Bool) → is_skipped line ≡ b → (if b then None else later_fault held line) ≡ None → HoldsSmall (with_line held line)
-    by true s f = subst HoldsSmall (sym (with-other held line (skipped-other line s))) small
-    by false s f = later_small held line f small
-
 -- ---- all lines
-
--- the first fault from a line on, where this is what the line breaks
-abbrev after_line : List (List ℕ) → List ℕ → List (List ℕ) → Option CellFault → Option (ℕ × CellFault)
-after_line before line later (Some fault) = Some (length before + 1, fault)
-after_line before line later None = first_fault (before ++ line ∷ []) later
-
-lines_small : (before later : List (List ℕ)) → first_fault before later ≡ None → HoldsSmall (contents before) → HoldsSmall (contents (before ++ later))
-lines_small before [] e small = subst (λ (ls : List (List ℕ)). HoldsSmall (contents ls)) (sym (append-nil before)) small
-lines_small before (line ∷ later) e small = by (lines_small (before ++ line ∷ []) later) (fault_after before line) refl e
-  where
-    by : (first_fault (before ++ line ∷ []) later ≡ None → HoldsSmall (contents (before ++ line ∷ [])) → HoldsSmall (contents ((before ++ line ∷ []) ++ later)))
-        → (f : Option CellFault) → fault_after before line ≡ f
-        → after_line before line later f ≡ None
-        → HoldsSmall (contents (before ++ line ∷ later))
-    by rest (Some f) judged_so h = absurd cc
-    by rest None judged_so h =
-        subst (λ (ls : List (List ℕ)). HoldsSmall (contents ls)) (append_assoc before (line ∷ []) later)
-        (rest h (subst HoldsSmall (sym (contents-more before line)) (line_small (length before) (contents before) line judged_so small)))
 
 nothing_small : HoldsSmall (contents [])
 unfolding contents are_moments_in_range moments
 nothing_small = record { metrics = tt; moments = refl }
 
 text_small : (text : List ℕ) → cell_fault text ≡ None → HoldsSmall (contents (lines text))
-unfolding cell_fault
-text_small text e = lines_small [] (lines text) e nothing_small
+text_small text e = text_holds HoldsSmall later_small nothing_small text e
 
 -- ---- the cell
 

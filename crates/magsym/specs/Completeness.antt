@@ -18,8 +18,8 @@ pub record IsAnswerable (ws : List (List ℕ)) (s : Streams) : Type 0 where
   pub short : length text ≤ 262144
   pub cell : Structure
   pub spelled : Spells text cell
-  pub input_works : Rose s.in_faults s.in_faults_after → ⊥
-  pub output_works : Rose s.out_faults s.out_faults_after → ⊥
+  pub input_works : Rose s.in_highest s.in_faults s.in_faults_after → ⊥
+  pub output_works : Rose s.out_highest s.out_faults s.out_faults_after → ⊥
 
 -- the whole report is written, or memory was wanting
 abbrev pub IsDoneOrMemory : Status → Type 0

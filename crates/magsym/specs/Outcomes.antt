@@ -6,7 +6,8 @@
 --   IsDatasetReport c q bytes               what is found of c, as JSON, with its primitive cell in the basis of q
 --   IsOrbitReport c q bytes                 the orbits of the atoms of c, with its primitive cell in the basis of q
 --   IsReport command c kept bytes           the report that the command asks for on the crystal c, and the basis it speaks of
---   IsUsage, IsRefusal     the words were outside the rule; no report was begun
+--   HasOneReport c         for each command and basis there is one report on c
+--   IsDone, IsUsage, IsRefusal   the whole report is written; the words were outside the rule; no report was begun
 --   Outcome ws s status    what the status says, for these words and streams
 use Rattle.std.specs.Prelude.{◌≡◌, ℕ, pos, ◌<◌, ◌≤◌, Bool, true, false, List, length, take}
 use Rattle.std.specs.declared.option.Option.{Option}
@@ -21,6 +22,7 @@ use Rattle.cell_text.specs.declared.fault.CellFault.{CellFault}
 use Rattle.cell_text.specs.Rules.{cell_fault}
 use Rattle.cell_text.specs.CellFile.{Spells}
 use Rattle.lattice_spec.specs.Niggli.{IsNiggli}
+use Rattle.basis_spec.specs.Translations.{ListsPureTranslations}
 use Rattle.basis_spec.specs.Bases.{cell_in_basis, IsPrimitiveIn}
 use Rattle.mag_type.specs.declared.classification.Kind.{Kind}
 use Rattle.mag_type.specs.Families.{IsInFamily, IsUnprimed, IsNumberOf}
@@ -39,18 +41,21 @@ use Rattle.magsym.specs.declared.status.Status.{Status}
 use Rattle.magsym.specs.declared.status.Status.TheVariants.{Done, Usage, CellTooLong, CellRefused, ReadFault, WriteFault, Memory}
 use Rattle.magsym.specs.Commands.{command}
 
--- The bytes that are left of the input before and after, its counts of faults, and whether an end is seen after; the bytes
--- that the output holds before and after, and its counts of faults. Bytes are told by some inputs and outputs alone.
+-- The bytes that are left of the input before and after, its counts of faults with the number at which they stay, and whether
+-- an end is seen after; the bytes that the output holds before and after, and its counts of faults with that number. Bytes are
+-- told by some inputs and outputs alone.
 pub record Streams : Type 0 where
   pub left : Option (List ℕ)
   pub left_after : Option (List ℕ)
   pub in_faults : ℕ
   pub in_faults_after : ℕ
+  pub in_highest : Option ℕ
   pub end_is_seen : Bool
   pub held : Option (List ℕ)
   pub held_after : Option (List ℕ)
   pub out_faults : ℕ
   pub out_faults_after : ℕ
+  pub out_highest : Option ℕ
 
 -- the text is all that was left, at most 262,144 bytes, nothing is left, and the end is seen
 pub record ReadWhole (s : Streams) (text : List ℕ) : Type 0 where
@@ -67,22 +72,24 @@ pub record SymmetryReport (c : Structure) (time : Bool) (skip : ℕ) (most : Opt
   pub lines : bytes ≡ page_text (record { n = c.n; operations = operations }) skip most
 
 -- Q takes coordinates to those in a Niggli-reduced basis of all translations of the crystal, and the bytes are the text of
--- the cell there, with its index and Q.
+-- the cell there, with its index and Q. The index is det Q, and how many pure translations the crystal has.
 pub record IsPrimitiveReport (c : Structure) (q : Matrix) (bytes : List ℕ) : Type 0 where
   pub primitive : IsPrimitiveIn c q
   pub niggli : IsNiggli (cell_in_basis c q).metric
   pub index : ℕ
   pub index_is : pos index ≡ determinant q
+  pub counted : (os : List Operation) → ListsPureTranslations c os → length os ≡ index
   pub lines : bytes ≡ cell_in_basis_text index q (cell_in_basis c q)
 
 -- Q takes coordinates to those in a Niggli-reduced basis of all translations of the crystal. The bytes are the text of the
--- index, Q, the metric tensor there, the list of all symmetry operations there, the number of those of the cell, the
+-- index, which is det Q and how many pure translations the crystal has, Q, the metric tensor there, the list of all symmetry operations there, the number of those of the cell, the
 -- magnetic type with the orders of the family group and of the maximal space subgroup, and the orbits of the atoms.
 pub record IsDatasetReport (c : Structure) (q : Matrix) (bytes : List ℕ) : Type 0 where
   pub primitive : IsPrimitiveIn c q
   pub niggli : IsNiggli (cell_in_basis c q).metric
   pub index : ℕ
   pub index_is : pos index ≡ determinant q
+  pub counted : (os : List Operation) → ListsPureTranslations c os → length os ≡ index
   pub operations : List Operation
   pub all : ListsAll (cell_in_basis c q) operations
   pub operations_of_cell : List Operation
@@ -119,6 +126,10 @@ IsReport Dataset c (Back q) bytes = IsDatasetReport c q bytes
 IsReport Orbits c NoBase bytes = ⊥
 IsReport Orbits c (Back q) bytes = IsOrbitReport c q bytes
 
+-- reports of one command that speak of one basis are one
+abbrev pub HasOneReport : Structure → Type 0
+HasOneReport c = (request : Command) (kept : Kept) (bytes others : List ℕ) → IsReport request c kept bytes → IsReport request c kept others → bytes ≡ others
+
 -- the words ask for a command
 pub record IsAsked (ws : List (List ℕ)) : Type 0 where
   pub request : Command
@@ -146,7 +157,7 @@ pub record WritesPart (ws : List (List ℕ)) (s : Streams) (kept : Kept) (writte
   pub answers : Answers ws s kept report
   pub fewer : written < length report
   pub appended : Appends s.held s.held_after (take written report)
-  pub cause : Rose s.out_faults s.out_faults_after
+  pub cause : Rose s.out_highest s.out_faults s.out_faults_after
 
 -- the input was read to its end, and this line, counted from 1, is the first that breaks a rule of the cell file: this rule
 pub record BreaksRule (s : Streams) (line : ℕ) (fault : CellFault) : Type 0 where
@@ -167,7 +178,17 @@ pub record FailsToRead (s : Streams) : Type 0 where
   pub consumed : Consumes s.left s.left_after taken
   pub few : length taken ≤ 262144
   pub unseen : s.end_is_seen ≡ false
-  pub cause : Rose s.in_faults s.in_faults_after
+  pub cause : Rose s.in_highest s.in_faults s.in_faults_after
+
+-- the whole report is written
+abbrev pub IsDone : Status → Type 0
+IsDone (Done kept) = Unit {0}
+IsDone (Usage fault) = ⊥
+IsDone (WriteFault written kept) = ⊥
+IsDone (CellRefused line fault) = ⊥
+IsDone CellTooLong = ⊥
+IsDone ReadFault = ⊥
+IsDone Memory = ⊥
 
 -- the words were outside the rule
 abbrev pub IsUsage : Status → Type 0

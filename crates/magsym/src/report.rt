@@ -1,9 +1,11 @@
 // The reports of the commands.
 
 ghost use Rattle.std.specs.Prelude.{◌≡◌, IfOk};
+ghost use Rattle.crystal_spec.specs.Crystals.{Structure};
+ghost use Rattle.basis_spec.specs.Bases.{IsCell};
 ghost use Rattle.magsym.specs.declared.command.Command.TheVariants.{Symmetry, Primitive, Dataset, Orbits};
 ghost use Rattle.magsym.specs.declared.status.Kept.TheVariants.{Back};
-ghost use Rattle.magsym.specs.Outcomes.{IsReport};
+ghost use Rattle.magsym.specs.Outcomes.{IsReport, HasOneReport};
 ghost use Rattle.magsym.specs.Spelled.{IsSpelled};
 
 use crate::command::Command;
@@ -146,3 +148,10 @@ pub(crate) fn report_of<L: Ledger>(
         Command::Orbits => report_of_orbits(alloc, cell, steps),
     }
 }
+
+/// The report on a cell is one, for each command and each basis that it speaks of.
+///
+/// So whatever a report is made of, as the type of its group and the orbits of its atoms, is told by the cell and the basis.
+pub fn report_is_one()
+    ensures { (c : Structure) → IsCell c → HasOneReport c }
+{}

@@ -1,8 +1,9 @@
-ghost use Rattle.std.specs.Prelude.{◌≤◌, ◌++◌, map, codes, decimal};
+ghost use Rattle.std.specs.Prelude.{◌≡◌, ◌≤◌, ◌++◌, map, codes, decimal};
 ghost use Rattle.std.specs.List.{concat};
 ghost use Rattle.magsym.specs.Telling.{Tells};
 ghost use Rattle.magsym.specs.declared.status.Status.TheVariants.{CellRefused};
 ghost use Rattle.magsym.specs.Statuses.{line_of};
+ghost use Rattle.magsym.specs.Outcomes.{IsDone};
 
 use crate::command::UsageFault;
 use crate::status::Status;
@@ -12,7 +13,7 @@ use itoa::Buffer;
 
 /// Writes the pieces of a line, one after another. A failed write leaves out the rest of the line.
 fn tell_pieces<E: Sink>(err: &mut E, pieces: &[&[u8]])
-    ensures told { Tells (E.held err.old) (E.held err.new) (E.faults err.old) (E.faults err.new) (concat (map (λ piece. piece.now) pieces.now)) }
+    ensures told { Tells E.highest_count (E.held err.old) (E.held err.new) (E.faults err.old) (E.faults err.new) (E.last_failed err.new) (concat (map (λ piece. piece.now) pieces.now)) }
     ensures later { E.faults err.old ≤ E.faults err.new }
 {
     if let [piece, rest @ ..] = pieces {
@@ -24,7 +25,7 @@ fn tell_pieces<E: Sink>(err: &mut E, pieces: &[&[u8]])
 
 /// Writes that a line of the cell file breaks a rule, and this text on the rule.
 fn tell_at<E: Sink>(err: &mut E, line: u32, text: &[u8])
-    ensures told { Tells (E.held err.old) (E.held err.new) (E.faults err.old) (E.faults err.new) (codes "magsym: line " ++ decimal line ++ codes ": " ++ text.now) }
+    ensures told { Tells E.highest_count (E.held err.old) (E.held err.new) (E.faults err.old) (E.faults err.new) (E.last_failed err.new) (codes "magsym: line " ++ decimal line ++ codes ": " ++ text.now) }
     ensures later { E.faults err.old ≤ E.faults err.new }
 {
     let mut number = Buffer::new();
@@ -34,7 +35,7 @@ fn tell_at<E: Sink>(err: &mut E, line: u32, text: &[u8])
 
 /// Writes that a line of the cell file gives an atom at the position of another.
 fn tell_same_place<E: Sink>(err: &mut E, line: u32, first: u32, second: u32)
-    ensures told { Tells (E.held err.old) (E.held err.new) (E.faults err.old) (E.faults err.new) (codes "magsym: line " ++ decimal line ++ codes ": atoms " ++ decimal first ++ codes " and " ++ decimal second ++ codes " stand at one place\n") }
+    ensures told { Tells E.highest_count (E.held err.old) (E.held err.new) (E.faults err.old) (E.faults err.new) (E.last_failed err.new) (codes "magsym: line " ++ decimal line ++ codes ": atoms " ++ decimal first ++ codes " and " ++ decimal second ++ codes " stand at one place\n") }
     ensures later { E.faults err.old ≤ E.faults err.new }
 {
     let (mut number, mut one, mut other) = (Buffer::new(), Buffer::new(), Buffer::new());
@@ -57,7 +58,7 @@ fn tell_same_place<E: Sink>(err: &mut E, line: u32, first: u32, second: u32)
 
 /// Writes the line on a cell that is refused.
 fn tell_refused<E: Sink>(err: &mut E, line: u32, fault: &CellFault)
-    ensures told { Tells (E.held err.old) (E.held err.new) (E.faults err.old) (E.faults err.new) (line_of (CellRefused line fault.now)) }
+    ensures told { Tells E.highest_count (E.held err.old) (E.held err.new) (E.faults err.old) (E.faults err.new) (E.last_failed err.new) (line_of (CellRefused line fault.now)) }
     ensures later { E.faults err.old ≤ E.faults err.new }
 {
     match fault {
@@ -85,14 +86,15 @@ fn tell_refused<E: Sink>(err: &mut E, line: u32, fault: &CellFault)
     }
 }
 
-/// Writes the line of a status. A failed write leaves out the rest of the line.
+/// Writes the line of a status: nothing after a whole report. A failed write leaves out the rest of the line.
 pub(crate) fn tell<E: Sink>(err: &mut E, status: &Status)
-    ensures told { Tells (E.held err.old) (E.held err.new) (E.faults err.old) (E.faults err.new) (line_of status.now) }
+    ensures told { Tells E.highest_count (E.held err.old) (E.held err.new) (E.faults err.old) (E.faults err.new) (E.last_failed err.new) (line_of status.now) }
+    ensures untouched { IsDone status.now → err.new ≡ err.old }
     ensures later { E.faults err.old ≤ E.faults err.new }
 {
     let line: &[u8] = match status {
         Status::CellRefused(line, fault) => return tell_refused(err, *line, fault),
-        Status::Done(_) => b"",
+        Status::Done(_) => return,
         Status::Usage(UsageFault::NoCommand) => b"magsym: no command\n",
         Status::Usage(UsageFault::UnknownCommand) => b"magsym: unknown command\n",
         Status::Usage(UsageFault::UnknownOption) => b"magsym: unknown option\n",

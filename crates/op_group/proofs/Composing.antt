@@ -15,11 +15,13 @@ use Rattle.matrix3.specs.Matrices as formulas
 use Rattle.matrix3.specs.Inverse.{IsInverse}
 use Rattle.crystal_spec.specs.declared.Sign.{Sign}
 use Rattle.crystal_spec.specs.declared.Sign.TheVariants.{Same, Reversed}
-use Rattle.crystal_spec.specs.Matrices.{Matrix, Triple, determinant, identity, image, multiple, product, sum_of, difference}
+use Rattle.crystal_spec.specs.declared.MomentKind.{MomentKind}
+use Rattle.crystal_spec.specs.Matrices.{Matrix, Triple, identity, image, multiple, product, sum_of, difference}
 use Rattle.crystal_spec.specs.Crystals.{position_after, moment_after}
 use Rattle.crystal_spec.specs.Operations.{Operation, IsWithinCell, sign_factor}
 use Rattle.crystal_spec.proofs.Identities.{by_integers, by_triples, by_matrices}
-use Rattle.crystal_spec.proofs.Isometries.{determinant-product, sign_squared}
+use Rattle.crystal_spec.proofs.Isometries.{sign_squared}
+use Rattle.crystal_spec.proofs.Moments.{moment_after-product}
 use Rattle.op_group.specs.Composition.{ReducesTo, identity_operation, IsComposed, IsInverseModulo}
 use Rattle.op_group.proofs.Reducing.{reduces_once}
 
@@ -53,23 +55,12 @@ composed_position n a b r h p =
     ∙ sum_associates (image (product b.matrix a.matrix) p) r.translation (multiple (pos n) h.translation.cells)
     ∙ ap (λ (m : Matrix). sum_of (sum_of (image m p) r.translation) (multiple (pos n) h.translation.cells)) (sym h.matrix)
 
--- the factors of axial vectors multiply
-after_moment : (w v : Matrix) (s t d e : ℤ) (m : Triple) → multiple (t *ℤ e) (image v (multiple (s *ℤ d) (image w m))) ≡ multiple ((t *ℤ s) *ℤ (e *ℤ d)) (image (product v w) m)
-after_moment w v s t d e m =
-    let a = matrix_of_variables 0 in
-    let b = matrix_of_variables 9 in
-    let x = vector_of_variables 22 in
-    by_triples (entries w ++ entries v ++ s ∷ t ∷ d ∷ e ∷ coordinates m)
-    (formulas.multiple quoted (var 19 :* var 21) (formulas.image quoted b (formulas.multiple quoted (var 18 :* var 20) (formulas.image quoted a x))))
-    (formulas.multiple quoted ((var 19 :* var 18) :* (var 21 :* var 20)) (formulas.image quoted (formulas.product quoted b a) x)) refl
-
 -- the operation makes of each moment what first the one and then the other makes of it
-pub composed_moment : (n : ℕ) (a b r : Operation) → IsComposed n a b r → (m : Triple) →
-    moment_after b.matrix (sign_factor b.sign) (moment_after a.matrix (sign_factor a.sign) m) ≡ moment_after r.matrix (sign_factor r.sign) m
-composed_moment n a b r h m =
-    after_moment a.matrix b.matrix (sign_factor a.sign) (sign_factor b.sign) (determinant a.matrix) (determinant b.matrix) m
-    ∙ ap (λ (d : ℤ). multiple ((sign_factor b.sign *ℤ sign_factor a.sign) *ℤ d) (image (product b.matrix a.matrix) m)) (sym (determinant-product b.matrix a.matrix))
-    ∙ ap₂ (λ (s : ℤ) (w : Matrix). multiple (s *ℤ determinant w) (image w m)) (sym h.sign) (sym h.matrix)
+pub composed_moment : (kind : MomentKind) (n : ℕ) (a b r : Operation) → IsComposed n a b r → (m : Triple) →
+    moment_after kind b.matrix (sign_factor b.sign) (moment_after kind a.matrix (sign_factor a.sign) m) ≡ moment_after kind r.matrix (sign_factor r.sign) m
+composed_moment kind n a b r h m =
+    moment_after-product kind b.matrix a.matrix (sign_factor b.sign) (sign_factor a.sign) m
+    ∙ ap₂ (λ (s : ℤ) (w : Matrix). moment_after kind w s m) (sym h.sign) (sym h.matrix)
 
 -- ---- one operation
 

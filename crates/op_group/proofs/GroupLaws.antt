@@ -19,6 +19,7 @@ use Rattle.crystal_spec.specs.Crystals.{Structure, IsPositive, Occupied, KeepsMe
 use Rattle.crystal_spec.specs.Operations.{Operation, IsSymmetryOperation, ListsAll, ListsAllSame, sign_factor}
 use Rattle.crystal_spec.proofs.Identities.{by_triples, by_matrices}
 use Rattle.crystal_spec.proofs.Isometries.{determinant-isometry}
+use Rattle.crystal_spec.proofs.Moments.{moment_after-identity}
 use Rattle.crystal_spec.proofs.Keeping.{two_cells}
 use Rattle.op_group.specs.Composition.{identity_operation, IsComposed, IsInverseModulo}
 use Rattle.op_group.specs.Groups.{IsGroupModulo}
@@ -133,14 +134,14 @@ pub keeps_composed : (c : Structure) (a b r : Operation) → IsComposed c.n a b 
 keeps_composed c a b r h j k = record {
   metric = subst (KeepsMetric c.metric) (sym h.matrix) (metric_composed c.metric a.matrix b.matrix j.metric k.metric);
   crystal = λ s p m. (
-    (λ o. nearer c s (position_after r.matrix r.translation p) h.translation.cells (moment_after r.matrix (sign_factor r.sign) m)
-        (subst (λ (v : Triple). Occupied c s v (moment_after r.matrix (sign_factor r.sign) m)) (composed_position c.n a b r h p)
-        (subst (λ (v : Triple). Occupied c s (position_after b.matrix b.translation (position_after a.matrix a.translation p)) v) (composed_moment c.n a b r h m)
-        ((k.crystal s (position_after a.matrix a.translation p) (moment_after a.matrix (sign_factor a.sign) m)).0 ((j.crystal s p m).0 o))))),
-    (λ o. (j.crystal s p m).1 ((k.crystal s (position_after a.matrix a.translation p) (moment_after a.matrix (sign_factor a.sign) m)).1
-        (subst (λ (v : Triple). Occupied c s (position_after b.matrix b.translation (position_after a.matrix a.translation p)) v) (sym (composed_moment c.n a b r h m))
-        (subst (λ (v : Triple). Occupied c s v (moment_after r.matrix (sign_factor r.sign) m)) (sym (composed_position c.n a b r h p))
-        (farther c s (position_after r.matrix r.translation p) h.translation.cells (moment_after r.matrix (sign_factor r.sign) m) o))))),
+    (λ o. nearer c s (position_after r.matrix r.translation p) h.translation.cells (moment_after c.kind r.matrix (sign_factor r.sign) m)
+        (subst (λ (v : Triple). Occupied c s v (moment_after c.kind r.matrix (sign_factor r.sign) m)) (composed_position c.n a b r h p)
+        (subst (λ (v : Triple). Occupied c s (position_after b.matrix b.translation (position_after a.matrix a.translation p)) v) (composed_moment c.kind c.n a b r h m)
+        ((k.crystal s (position_after a.matrix a.translation p) (moment_after c.kind a.matrix (sign_factor a.sign) m)).0 ((j.crystal s p m).0 o))))),
+    (λ o. (j.crystal s p m).1 ((k.crystal s (position_after a.matrix a.translation p) (moment_after c.kind a.matrix (sign_factor a.sign) m)).1
+        (subst (λ (v : Triple). Occupied c s (position_after b.matrix b.translation (position_after a.matrix a.translation p)) v) (sym (composed_moment c.kind c.n a b r h m))
+        (subst (λ (v : Triple). Occupied c s v (moment_after c.kind r.matrix (sign_factor r.sign) m)) (sym (composed_position c.n a b r h p))
+        (farther c s (position_after r.matrix r.translation p) h.translation.cells (moment_after c.kind r.matrix (sign_factor r.sign) m) o))))),
   );
 }
 
@@ -150,11 +151,6 @@ stays : (p : Triple) → position_after identity (record { x = pos 0; y = pos 0;
 stays p =
     let x = vector_of_variables 0 in
     by_triples (coordinates p) (formulas.sum_of quoted (formulas.image quoted (formulas.scalar quoted (con (pos 1))) x) (record { x = con (pos 0); y = con (pos 0); z = con (pos 0) })) x refl
-
-moment_stays : (m : Triple) → moment_after identity (pos 1) m ≡ m
-moment_stays m =
-    let x = vector_of_variables 0 in
-    by_triples (coordinates m) (formulas.multiple quoted (con (pos 1)) (formulas.image quoted (formulas.scalar quoted (con (pos 1))) x)) x refl
 
 metric_stays : (g : Matrix) → KeepsMetric g identity
 metric_stays g =
@@ -166,8 +162,8 @@ keeps_identity : (c : Structure) → KeepsBy c identity_operation
 keeps_identity c = record {
   metric = metric_stays c.metric;
   crystal = λ s p m. (
-    (λ o. subst (λ (v : Triple). Occupied c s v (moment_after identity (pos 1) m)) (sym (stays p)) (subst (Occupied c s p) (sym (moment_stays m)) o)),
-    (λ o. subst (Occupied c s p) (moment_stays m) (subst (λ (v : Triple). Occupied c s v (moment_after identity (pos 1) m)) (stays p) o)),
+    (λ o. subst (λ (v : Triple). Occupied c s v (moment_after c.kind identity (pos 1) m)) (sym (stays p)) (subst (Occupied c s p) (sym (moment_after-identity c.kind m)) o)),
+    (λ o. subst (Occupied c s p) (moment_after-identity c.kind m) (subst (λ (v : Triple). Occupied c s v (moment_after c.kind identity (pos 1) m)) (stays p) o)),
   );
 }
 
@@ -182,25 +178,25 @@ metric_inverse g a b e k =
 pub keeps_inverse : (c : Structure) (a b : Operation) → IsInverseModulo c.n a b → KeepsBy c a → KeepsBy c b
 keeps_inverse c a b h k = record {
   metric = metric_inverse c.metric a.matrix b.matrix (sym h.before.matrix) k.metric;
-  crystal = λ s p m. ((λ o. (k.crystal s (position_after b.matrix b.translation p) (moment_after b.matrix (sign_factor b.sign) m)).1 (there s p m o)), (λ o. back s p m ((k.crystal s (position_after b.matrix b.translation p) (moment_after b.matrix (sign_factor b.sign) m)).0 o)));
+  crystal = λ s p m. ((λ o. (k.crystal s (position_after b.matrix b.translation p) (moment_after c.kind b.matrix (sign_factor b.sign) m)).1 (there s p m o)), (λ o. back s p m ((k.crystal s (position_after b.matrix b.translation p) (moment_after c.kind b.matrix (sign_factor b.sign) m)).0 o)));
 }
   where
     where_to : (p : Triple) → position_after a.matrix a.translation (position_after b.matrix b.translation p) ≡ sum_of p (multiple (pos c.n) h.before.translation.cells)
     where_to p = composed_position c.n b a identity_operation h.before p ∙ ap (λ (v : Triple). sum_of v (multiple (pos c.n) h.before.translation.cells)) (stays p)
 
-    what : (m : Triple) → moment_after a.matrix (sign_factor a.sign) (moment_after b.matrix (sign_factor b.sign) m) ≡ m
-    what m = composed_moment c.n b a identity_operation h.before m ∙ moment_stays m
+    what : (m : Triple) → moment_after c.kind a.matrix (sign_factor a.sign) (moment_after c.kind b.matrix (sign_factor b.sign) m) ≡ m
+    what m = composed_moment c.kind c.n b a identity_operation h.before m ∙ moment_after-identity c.kind m
 
-    there : (s : ℕ) (p m : Triple) → Occupied c s p m → Occupied c s (position_after a.matrix a.translation (position_after b.matrix b.translation p)) (moment_after a.matrix (sign_factor a.sign) (moment_after b.matrix (sign_factor b.sign) m))
+    there : (s : ℕ) (p m : Triple) → Occupied c s p m → Occupied c s (position_after a.matrix a.translation (position_after b.matrix b.translation p)) (moment_after c.kind a.matrix (sign_factor a.sign) (moment_after c.kind b.matrix (sign_factor b.sign) m))
     there s p m o =
-        subst (λ (v : Triple). Occupied c s v (moment_after a.matrix (sign_factor a.sign) (moment_after b.matrix (sign_factor b.sign) m))) (sym (where_to p))
+        subst (λ (v : Triple). Occupied c s v (moment_after c.kind a.matrix (sign_factor a.sign) (moment_after c.kind b.matrix (sign_factor b.sign) m))) (sym (where_to p))
         (subst (Occupied c s (sum_of p (multiple (pos c.n) h.before.translation.cells))) (sym (what m)) (farther c s p h.before.translation.cells m o))
 
-    back : (s : ℕ) (p m : Triple) → Occupied c s (position_after a.matrix a.translation (position_after b.matrix b.translation p)) (moment_after a.matrix (sign_factor a.sign) (moment_after b.matrix (sign_factor b.sign) m)) → Occupied c s p m
+    back : (s : ℕ) (p m : Triple) → Occupied c s (position_after a.matrix a.translation (position_after b.matrix b.translation p)) (moment_after c.kind a.matrix (sign_factor a.sign) (moment_after c.kind b.matrix (sign_factor b.sign) m)) → Occupied c s p m
     back s p m o =
         nearer c s p h.before.translation.cells m
         (subst (Occupied c s (sum_of p (multiple (pos c.n) h.before.translation.cells))) (what m)
-        (subst (λ (v : Triple). Occupied c s v (moment_after a.matrix (sign_factor a.sign) (moment_after b.matrix (sign_factor b.sign) m))) (where_to p) o))
+        (subst (λ (v : Triple). Occupied c s v (moment_after c.kind a.matrix (sign_factor a.sign) (moment_after c.kind b.matrix (sign_factor b.sign) m))) (where_to p) o))
 
 -- ---- the lists of all operations, and of all that do not reverse time
 

@@ -37,8 +37,8 @@ is_cell c h =
       some_cells = some_cells c h;
       first = f.site;
       of_cell = f.of_list;
-      named = λ a m. (site_member (length c.names) c.n c.sites a h.sites m).named;
-      within = λ a m. (site_member (length c.names) c.n c.sites a h.sites m).within;
+      named = λ a m. (site_member (length c.names) c.n c.kind c.sites a h.sites m).named;
+      within = λ a m. (site_member (length c.names) c.n c.kind c.sites a h.sites m).within;
       one_atom_each = one_atom_each_of_apart c (apart_cell c h);
     }
 

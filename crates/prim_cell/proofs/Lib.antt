@@ -5,3 +5,4 @@ pub mod Making
 pub mod Ranges
 pub mod Cells
 pub mod ReducedBases
+pub mod Numbering

@@ -3,9 +3,12 @@ use Rattle.std.proofs.Common.{◌≡◌, ℕ, zero, suc, ◌+◌, ◌<◌, ◌�
 use Rattle.std.specs.Prelude.{ℤ, pos, ◌≤ℤ◌, ◌⊎◌, ◌*◌, ◌^◌, ◌*ℤ◌, slice_get, slice_index, slice_set, Some}
 use Rattle.std.proofs.lemmas.List.{length-map}
 use Rattle.crystal_spec.specs.Increasing.{IsMember, IsDistinct}
+use Rattle.crystal_spec.specs.declared.MomentKind.{MomentKind}
 use Rattle.crystal_spec.specs.Matrices.{Matrix, determinant, adjugate, image}
+use Rattle.crystal_spec.specs.Moments.{IsOfKind}
 use Rattle.crystal_spec.specs.Crystals.{Site, Structure}
 use Rattle.crystal_spec.specs.Operations.{IsWithinCell}
+use Rattle.crystal_spec.proofs.Moments.{turn-of_kind}
 use Rattle.crystal.specs.Bounds.{EntriesAtMost, CoordinatesAtMost}
 use Rattle.crystal.specs.Cells.{IsCell, IsSiteOf}
 use Rattle.basis_spec.specs.Metrics.{metric_in}
@@ -72,34 +75,36 @@ few_so_far f sites i h k =
 
 -- ---- the cell
 -- an atom in the other basis is one of the cell
-pub site_rebased : (c : Structure) → IsCell c → (m : ℕ) → m ≡ c.n → (r : Matrix) (a b : Site) → IsSiteOf (length c.names) c.n a → b ≡ site_in_basis m r a → CoordinatesAtMost (2 * 10 ^ 27) b.moment → IsSiteOf (length c.names) c.n b
+pub site_rebased : (c : Structure) → IsCell c → (m : ℕ) → m ≡ c.n → (r : Matrix) (a b : Site) → IsSiteOf (length c.names) c.n c.kind a → b ≡ site_in_basis m c.kind r a → CoordinatesAtMost (2 * 10 ^ 27) b.moment → IsSiteOf (length c.names) c.n c.kind b
 site_rebased c cell m same r a b h e k = record {
   named = subst (λ (s : ℕ). s < length c.names) (sym (ap (λ (x : Site). x.species) e)) h.named;
-  within = subst (λ (x : Site). IsWithinCell c.n x.position) (sym (e ∙ ap (λ (n : ℕ). site_in_basis n r a) same)) (residue_within c.n (image r a.position) (some_cells c cell));
+  within = subst (λ (x : Site). IsWithinCell c.n x.position) (sym (e ∙ ap (λ (n : ℕ). site_in_basis n c.kind r a) same)) (residue_within c.n (image r a.position) (some_cells c cell));
   moment = k;
+  of_kind = subst (λ (x : Site). IsOfKind c.kind x.moment) (sym e) (turn-of_kind c.kind r a.moment h.of_kind);
 }
 
 one_taken : {X : Type 0} (xs : List X) (x : X) → slice_get xs 0 ≡ Some x → x ∷ [] ≡ take 1 xs
 one_taken xs x e = taken_suc xs 0 x e
 
 -- the cell of the first name and the first atom
-pub started_is : (c : Structure) (r : Matrix) (name : List ℕ) (x first : Site) (s : ℤ) (m : Matrix) (n k : ℕ) → slice_get c.names 0 ≡ Some name → slice_get c.sites 0 ≡ Some x → s ≡ (determinant r *ℤ determinant r) *ℤ c.scale → m ≡ metric_in (adjugate r) c.metric → n ≡ c.n → k ≡ c.k → first ≡ site_in_basis c.n r x →
-    record { names = name ∷ []; scale = s; metric = m; n = n; k = k; sites = first ∷ [] } ≡ started c r
+pub started_is : (c : Structure) (r : Matrix) (name : List ℕ) (x first : Site) (s : ℤ) (m : Matrix) (n k : ℕ) (kind : MomentKind) → slice_get c.names 0 ≡ Some name → slice_get c.sites 0 ≡ Some x → s ≡ (determinant r *ℤ determinant r) *ℤ c.scale → m ≡ metric_in (adjugate r) c.metric → n ≡ c.n → k ≡ c.k → kind ≡ c.kind → first ≡ site_in_basis c.n c.kind r x →
+    record { names = name ∷ []; scale = s; metric = m; n = n; k = k; kind = kind; sites = first ∷ [] } ≡ started c r
 unfolding cell_in_basis
-started_is c r name x first s m n k is_name is_x es em en ek e =
+started_is c r name x first s m n k kind is_name is_x es em en ek eh e =
     let names = one_taken c.names name is_name in
-    let sites : first ∷ [] ≡ first_at_each_position (map (site_in_basis c.n r) (take 1 c.sites)) = ap (λ (a : Site). a ∷ []) e ∙ ap (λ (l : List Site). first_at_each_position (map (site_in_basis c.n r) l)) (one_taken c.sites x is_x) in
-    (λ i. record { names = names i; scale = es i; metric = em i; n = en i; k = ek i; sites = sites i })
+    let sites : first ∷ [] ≡ first_at_each_position (map (site_in_basis c.n c.kind r) (take 1 c.sites)) = ap (λ (a : Site). a ∷ []) e ∙ ap (λ (l : List Site). first_at_each_position (map (site_in_basis c.n c.kind r) l)) (one_taken c.sites x is_x) in
+    (λ i. record { names = names i; scale = es i; metric = em i; n = en i; k = ek i; kind = eh i; sites = sites i })
 
 -- what the cell has of the cell of the first name and the first atom
 pub record HasStarted (c made : Structure) (r : Matrix) : Type 0 where
   pub n : made.n ≡ c.n
+  pub kind : made.kind ≡ c.kind
   pub names : made.names ≡ take 1 c.names
-  pub sites : made.sites ≡ first_at_each_position (map (site_in_basis c.n r) (take 1 c.sites))
+  pub sites : made.sites ≡ first_at_each_position (map (site_in_basis c.n c.kind r) (take 1 c.sites))
 
 pub has_started : (c made : Structure) (r : Matrix) → made ≡ started c r → HasStarted c made r
 unfolding cell_in_basis
-has_started c made r e = record { n = ap (λ (s : Structure). s.n) e; names = ap (λ (s : Structure). s.names) e; sites = ap (λ (s : Structure). s.sites) e }
+has_started c made r e = record { n = ap (λ (s : Structure). s.n) e; kind = ap (λ (s : Structure). s.kind) e; names = ap (λ (s : Structure). s.names) e; sites = ap (λ (s : Structure). s.sites) e }
 
 -- all names and atoms are there
 pub all_made : (c a b d : Structure) (r : Matrix) → a ≡ started c r → b ≡ record a { names = c.names } → d ≡ with_atoms b c r c.sites → d ≡ cell_in_basis c r
@@ -131,9 +136,9 @@ sizes_more c x h k = record { scale = h.scale; metric = h.metric; moments = λ a
     by a (inr e) = subst (λ (y : Site). CoordinatesAtMost (10 ^ 9) y.moment) (sym e) k
 
 -- a cell of one atom
-pub sizes_of_one : (c : Structure) (name : List ℕ) (s : ℤ) (g : Matrix) (n k : ℕ) (a : Site) → ◌≡◌ {A = Structure} c (record { names = name ∷ []; scale = s; metric = g; n = n; k = k; sites = a ∷ [] }) →
+pub sizes_of_one : (c : Structure) (name : List ℕ) (s : ℤ) (g : Matrix) (n k : ℕ) (kind : MomentKind) (a : Site) → ◌≡◌ {A = Structure} c (record { names = name ∷ []; scale = s; metric = g; n = n; k = k; kind = kind; sites = a ∷ [] }) →
     s ≤ℤ pos (10 ^ 9) → EntriesAtMost (10 ^ 9) g → CoordinatesAtMost (10 ^ 9) a.moment → HasSizesOfRead c
-sizes_of_one c name s g n k a e h m v = subst HasSizesOfRead (sym e) (record { scale = h; metric = m; moments = by; names = omega arith })
+sizes_of_one c name s g n k kind a e h m v = subst HasSizesOfRead (sym e) (record { scale = h; metric = m; moments = by; names = omega arith })
   where
     by : (b : Site) → IsMember b (a ∷ []) → CoordinatesAtMost (10 ^ 9) b.moment
     by b (inl same) = subst (λ (y : Site). CoordinatesAtMost (10 ^ 9) y.moment) (sym same) v

@@ -4,19 +4,20 @@ use Rattle.std.specs.Int.{int_rem_euclid}
 use Rattle.numbers.specs.Residue.{residue as int_residue}
 use Rattle.std.specs.Prelude.{◌↔◌, ℤ, pos, ◌<ℤ◌, slice_get, slice_index, Some}
 use Rattle.std.proofs.lemmas.Int.{ints}
-use Rattle.crystal_spec.specs.Matrices.{Triple, identity, sum_of}
-use Rattle.crystal_spec.specs.Crystals.{Site, Structure, position_after, moment_after}
+use Rattle.crystal_spec.specs.Matrices.{Triple, Matrix, identity, image, sum_of}
+use Rattle.crystal_spec.specs.Crystals.{Site, Structure, position_after}
 use Rattle.crystal.specs.Views.{triple_of}
 use Rattle.crystal_spec.proofs.Entrywise.{triple_same}
+use Rattle.crystal_spec.proofs.Moments.{moment_matrix-identity}
 use Rattle.crystal.specs.Cells.{IsCell}
 use Rattle.crystal.specs.Occupants.{IsOccupant, NoneAt}
 use Rattle.crystal.specs.Carrying.{FoldsTo, HasImage, HaveImages}
 use Rattle.crystal.proofs.ImageLemmas.{occupied_at, unoccupied_at, keeps_exactly}
 use Rattle.basis_spec.specs.Positions.{residue}
 use Rattle.basis_spec.specs.Translations.{IsTranslation}
-use Rattle.basis_spec.proofs.MatrixLaws.{metric_in-identity}
+use Rattle.basis_spec.proofs.MatrixLaws.{image-identity, metric_in-identity}
 use Rattle.basis_spec.proofs.Residues.{residue_away, residue_within}
-use Rattle.basis_spec.proofs.Translations.{position_translated, moment_translated}
+use Rattle.basis_spec.proofs.Translations.{position_translated}
 
 -- a number that is one of a list's is below its length
 pub below_length : {X : Type 0} (xs : List X) (i : ℕ) (x : X) → slice_get xs i ≡ Some x → i < length xs
@@ -56,19 +57,20 @@ moved_folds c cell m same t p q e =
 
 -- where an atom is at the position to which an atom is taken, that atom decides
 pub image_at : {T : Type 0} (c : Structure) → IsCell c → (m : ℕ) → m ≡ c.n → (t : Triple) (a : Site) (q : Triple) → q ≡ residue m (sum_of a.position t) → (i : ℕ) (b : Site) → IsOccupant c.sites q i → slice_get c.sites i ≡ Some b →
-    T ↔ ((b.species ≡ a.species) × (b.moment ≡ a.moment)) → T ↔ HasImage c identity t (pos 1) a
+    T ↔ ((b.species ≡ a.species) × (b.moment ≡ a.moment)) → T ↔ HasImage c identity t identity a
 image_at {T} c cell m same t a q e i b o is test =
-    occupied_at c cell a.species (position_after identity t a.position) (moment_after identity (pos 1) a.moment) q i b (moved_folds c cell m same t a.position q e) o is
-    (subst (λ (v : Triple). T ↔ ((b.species ≡ a.species) × (b.moment ≡ v))) (sym (moment_translated a.moment)) test)
+    occupied_at c cell a.species (position_after identity t a.position) (image identity a.moment) q i b (moved_folds c cell m same t a.position q e) o is
+    (subst (λ (v : Triple). T ↔ ((b.species ≡ a.species) × (b.moment ≡ v))) (sym (image-identity a.moment)) test)
 
 -- where none is there, the atom has no image
-pub no_image_at : (c : Structure) → IsCell c → (m : ℕ) → m ≡ c.n → (t : Triple) (a : Site) (q : Triple) → q ≡ residue m (sum_of a.position t) → NoneAt q c.sites → HasImage c identity t (pos 1) a → ⊥
+pub no_image_at : (c : Structure) → IsCell c → (m : ℕ) → m ≡ c.n → (t : Triple) (a : Site) (q : Triple) → q ≡ residue m (sum_of a.position t) → NoneAt q c.sites → HasImage c identity t identity a → ⊥
 no_image_at c cell m same t a q e none =
-    unoccupied_at c cell a.species (position_after identity t a.position) (moment_after identity (pos 1) a.moment) q (moved_folds c cell m same t a.position q e) none
+    unoccupied_at c cell a.species (position_after identity t a.position) (image identity a.moment) q (moved_folds c cell m same t a.position q e) none
 
 -- a translation keeps the crystal where each atom has an image
-pub translation_exactly : {T : Type 0} (c : Structure) → IsCell c → (t : Triple) → T ↔ HaveImages c identity t (pos 1) c.sites → T ↔ IsTranslation c t
-translation_exactly c cell t test = keeps_exactly c identity t (pos 1) cell refl (metric_in-identity c.metric) test
+pub translation_exactly : {T : Type 0} (c : Structure) → IsCell c → (t : Triple) → T ↔ HaveImages c identity t identity c.sites → T ↔ IsTranslation c t
+translation_exactly {T} c cell t test =
+    keeps_exactly c identity t (pos 1) cell refl (metric_in-identity c.metric) (subst (λ (l : Matrix). T ↔ HaveImages c identity t l c.sites) (sym (moment_matrix-identity c.kind)) test)
 
 -- the residue of an integer is the rest of its division
 pub residue-euclid : (n : ℕ) (z : ℤ) → 1 ≤ n → int_residue n z ≡ int_rem_euclid z (pos n)

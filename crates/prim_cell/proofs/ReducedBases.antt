@@ -81,6 +81,7 @@ module _ (c : Structure) (cell : IsCell c) (os : List Operation) (lists : ListsP
         primitive = p.primitive;
         lattice = p.is_back;
         determinant_is = p.index_is;
+        count = p.count;
         inverse = inverse;
         fore_is = fore_is;
         metric_is = metric_is;

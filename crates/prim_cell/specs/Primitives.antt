@@ -4,7 +4,7 @@
 --   PrimitiveCell                   a cell, the changes of basis between it and another, and the pure translations of that
 --   IsPrimitiveCell p               the cell of p is primitive and reduced, and the rest of p leads to it
 --   IsReducedBasis c os i r p g     r takes coordinates of c to a reduced basis of the pure translations os
-use Rattle.std.specs.Prelude.{◌≡◌, ℕ, pos, ◌*◌, ◌^◌, ◌≤◌, List}
+use Rattle.std.specs.Prelude.{◌≡◌, ℕ, pos, ◌*◌, ◌^◌, ◌≤◌, List, length}
 use Rattle.crystal_spec.specs.Matrices.{Matrix, product, determinant, adjugate, identity}
 use Rattle.crystal_spec.specs.Crystals.{Structure, IsPositive}
 use Rattle.crystal_spec.specs.Increasing.{IsMember}
@@ -49,6 +49,7 @@ pub record IsReducedBasis (c : Structure) (os : List Operation) (index : ℕ) (b
   pub primitive : IsPrimitiveIn c back
   pub lattice : IsBack c.n (InLattice c.n os) back
   pub determinant_is : pos index ≡ determinant back
+  pub count : length os ≡ index
   pub inverse : product fore back ≡ matrix_multiple (pos index) identity
   pub fore_is : fore ≡ adjugate back
   pub metric_is : metric ≡ metric_in (adjugate back) c.metric

@@ -8,7 +8,7 @@ use Rattle.basis_spec.specs.Bases.{cell_in_basis, first_at_each_position, site_i
 
 -- in order, each atom left out where its position came before
 abbrev pub with_atoms : Structure → Structure → Matrix → List Site → Structure
-with_atoms made c r sites = record made { sites = first_at_each_position (map (site_in_basis c.n r) sites) }
+with_atoms made c r sites = record made { sites = first_at_each_position (map (site_in_basis c.n c.kind r) sites) }
 
 -- one name and one atom
 abbrev pub started : Structure → Matrix → Structure

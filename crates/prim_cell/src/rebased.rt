@@ -16,7 +16,7 @@ ghost use Rattle.prim_cell.specs.Sizes.{HasMomentsAtMost};
 ghost use Rattle.prim_cell.specs.Rebasing.{with_atoms, started};
 
 use crate::names::{add_names, copied};
-use crystal::{Atom, Cell, Metric};
+use crystal::{Atom, Cell, Metric, MomentKind, turn_matrix};
 use exact_num::{Exact, Int, Residue};
 use matrix3::{Mat3, Vec3};
 use std::alloc::{AllocError, Global};
@@ -61,19 +61,19 @@ fn place_in_basis(r: &Mat3<Int>, place: [u32; 3], n: u32) -> [u32; 3]
     [folded(image.x, n), folded(image.y, n), folded(image.z, n)]
 }
 
-/// An atom in the basis to which R takes coordinates, brought into the cell.
-fn atom_in_basis(r: &Mat3<Int>, atom: &Atom, n: u32) -> Atom
+/// An atom with a moment of this kind in the basis to which R takes coordinates, brought into the cell.
+fn atom_in_basis(r: &Mat3<Int>, kind: MomentKind, atom: &Atom, n: u32) -> Atom
     requires basis { EntriesAtMost 25000000 r.now }
     requires moment { CoordinatesAtMost (10 ^ 9) atom.now.moment }
     requires at_least { 1 ≤ n }
     requires at_most { n ≤ 10 ^ 6 }
-    ensures value { site_of result ≡ site_in_basis n r.now (site_of atom.now) }
+    ensures value { site_of result ≡ site_in_basis n kind r.now (site_of atom.now) }
     ensures moment { CoordinatesAtMost (2 * 10 ^ 27) result.moment }
 {
     Atom {
         species: atom.species,
         place: place_in_basis(r, atom.place, n),
-        moment: r.apply(&atom.moment),
+        moment: turn_matrix(kind, r).apply(&atom.moment),
     }
 }
 
@@ -99,7 +99,7 @@ pub(crate) fn is_free(cell: &Cell, place: [u32; 3]) -> bool
 
 /// Adds the atom, unless one is at its position.
 fn put(made: &mut Cell, atom: Atom) -> Result<(), AllocError>
-    requires site { IsSiteOf (length made.old.names) made.old.n (site_of atom) }
+    requires site { IsSiteOf (length made.old.names) made.old.n made.old.kind (site_of atom) }
     requires fewer { length made.old.sites < 512 }
     ensures { OnOk result ((sites : List Site) → made.old.sites ≡ first_at_each_position sites → made.new ≡ record made.old { sites = first_at_each_position (sites ++ site_of atom ∷ []) }) }
 {
@@ -116,13 +116,15 @@ fn add_atoms(made: &mut Cell, cell: &Cell, r: &Mat3<Int>) -> Result<(), AllocErr
     requires basis { EntriesAtMost 25000000 r.now }
     requires moments { HasMomentsAtMost (10 ^ 9) cell.now }
     requires n { made.old.n ≡ cell.now.n }
+    requires kind { made.old.kind ≡ cell.now.kind }
     requires names { made.old.names ≡ cell.now.names }
-    requires first { made.old.sites ≡ first_at_each_position (map (site_in_basis cell.now.n r.now) (take 1 cell.now.sites)) }
+    requires first { made.old.sites ≡ first_at_each_position (map (site_in_basis cell.now.n cell.now.kind r.now) (take 1 cell.now.sites)) }
     ensures { OnOk result (made.new ≡ with_atoms made.old cell.now r.now cell.now.sites) }
 {
     let n = cell.n();
+    let kind = cell.kind();
     for i in 1..cell.count() {
-        put(made, atom_in_basis(r, cell.atom(i), n))?;
+        put(made, atom_in_basis(r, kind, cell.atom(i), n))?;
     }
     Ok(())
 }
@@ -148,9 +150,10 @@ fn first_in_basis(
 {
     let _form = cell.count();
     let scale = whole(index) * whole(index) * cell.scale();
-    let first = atom_in_basis(r, cell.atom(0), cell.n());
+    let kind = cell.kind();
+    let first = atom_in_basis(r, kind, cell.atom(0), cell.n());
     let name = copied(cell.name(0));
-    let made = Cell::build(alloc, scale, metric, cell.n(), cell.k(), name, first)?;
+    let made = Cell::build(alloc, scale, metric, cell.n(), cell.k(), kind, name, first)?;
     Ok(made)
 }
 

@@ -9,7 +9,7 @@ ghost use Rattle.prim_cell.specs.Sizes.{HasSizesOfRead};
 
 use crate::rebased::is_free;
 use crate::{Primitive, primitive, pure_shifts};
-use crystal::{Atom, Cell, Metric, Name, Places};
+use crystal::{Atom, Cell, Metric, MomentKind, Name, Places};
 use exact_num::Int;
 use matrix3::{Mat3, Vec3};
 use op_group::OpList;
@@ -148,7 +148,11 @@ fn one_atom(alloc: Global, metric: Metric, moment: [i8; 3]) -> Result<Cell, Fail
 {
     let name = Name::new(b"A").ok_or("A is no name")?;
     let first = atom([0, 0, 0], moment);
-    let cell = Cell::build(alloc, whole(1), metric, 2, 1, name, first)?;
+    let kind = MomentKind {
+        vector: true,
+        axial: true,
+    };
+    let cell = Cell::build(alloc, whole(1), metric, 2, 1, kind, name, first)?;
     Ok(cell)
 }
 
@@ -162,6 +166,9 @@ fn put(cell: &mut Cell, atom: Atom) -> Result<(), Fail>
     let [x, y, z] = atom.place;
     if x >= n || y >= n || z >= n || atom.species as usize >= cell.names() || cell.count() >= 512 {
         return Err(Fail::new("no atom can be there"));
+    }
+    if !cell.kind().vector {
+        return Err(Fail::new("the moments are scalars"));
     }
     if !is_free(cell, atom.place) {
         return Err(Fail::new("an atom is there"));

@@ -55,7 +55,7 @@ fn is_alike(a: &Atom, b: &Atom) -> bool
 fn has_image(places: &Places, shift: [u32; 3], atom: &Atom) -> bool
     requires shift { IsWithinCell places.now.n (triple_of shift) }
     requires place { IsWithinCell places.now.n (triple_of atom.now.place) }
-    ensures { IsTrue result ↔ HasImage places.now identity (triple_of shift) (pos 1) (site_of atom.now) }
+    ensures { IsTrue result ↔ HasImage places.now identity (triple_of shift) identity (site_of atom.now) }
 {
     let cell = places.cell();
     let _form = cell.count();
@@ -68,7 +68,7 @@ fn has_image(places: &Places, shift: [u32; 3], atom: &Atom) -> bool
 /// Whether it does so for each atom of the cell. Ends at the first atom for which it doesn't.
 fn have_images(places: &Places, shift: [u32; 3]) -> bool
     requires { IsWithinCell places.now.n (triple_of shift) }
-    ensures { IsTrue result ↔ HaveImages places.now identity (triple_of shift) (pos 1) places.now.sites }
+    ensures { IsTrue result ↔ HaveImages places.now identity (triple_of shift) identity places.now.sites }
 {
     let cell = places.cell();
     for i in 0..cell.count() {

@@ -6,6 +6,7 @@ use Rattle.std.proofs.lemmas.Fmt.{decimal_digit}
 use Rattle.numbers.specs.Gcd.{gcd}
 use Rattle.crystal_spec.specs.declared.Sign.TheVariants.{Same, Reversed}
 use Rattle.crystal_spec.specs.Matrices.{Matrix, identity}
+use Rattle.crystal_spec.specs.Moments.{axial_vectors}
 use Rattle.crystal_spec.specs.Crystals.{Site, Structure}
 use Rattle.crystal_spec.specs.Operations.{Operation}
 use Rattle.op_group.specs.Lists.{OperationList}
@@ -47,6 +48,7 @@ one_atom = record {
   metric = record { a11 = pos 4; a12 = pos 1; a13 = pos 1; a21 = pos 1; a22 = pos 5; a23 = pos 1; a31 = pos 1; a32 = pos 1; a33 = pos 6 };
   n = 1;
   k = 1;
+  kind = axial_vectors;
   sites = record { species = 0; position = record { x = pos 0; y = pos 0; z = pos 0 }; moment = record { x = pos 1; y = pos 2; z = pos 3 } } ∷ [];
 }
 

@@ -8,7 +8,7 @@ ghost use Rattle.crystal.specs.Bounds.{EntriesAtMost, CoordinatesAtMost};
 ghost use Rattle.prim_cell.specs.Sizes.{HasSizesOfRead};
 
 use crate::{prim_report, print_cell};
-use crystal::{Atom, Cell, Metric, Name, Places};
+use crystal::{Atom, Cell, Metric, MomentKind, Name, Places};
 use exact_num::Int;
 use matrix3::Vec3;
 use prim_cell::primitive;
@@ -62,7 +62,11 @@ fn one_atom(alloc: Global, moment: i8) -> Result<Cell, Fail>
 {
     let name = Name::new(b"A").ok_or("A is no name")?;
     let first = atom([0, 0, 0], moment);
-    let cell = Cell::build(alloc, whole(1), axes(), 2, 1, name, first)?;
+    let kind = MomentKind {
+        vector: true,
+        axial: true,
+    };
+    let cell = Cell::build(alloc, whole(1), axes(), 2, 1, kind, name, first)?;
     Ok(cell)
 }
 
@@ -76,6 +80,9 @@ fn put(alloc: Global, cell: &mut Cell, atom: Atom) -> Result<(), Fail>
     let [x, y, z] = atom.place;
     if x >= n || y >= n || z >= n || atom.species as usize >= cell.names() || cell.count() >= 512 {
         return Err(Fail::new("no atom can be there"));
+    }
+    if !cell.kind().vector {
+        return Err(Fail::new("the moments are scalars"));
     }
     if Places::new(alloc, cell)?.occupant(atom.place).is_some() {
         return Err(Fail::new("an atom is there"));

@@ -1,6 +1,7 @@
 -- Being alike is an equivalence where the operations are a group, and atoms that are alike are of one species.
 use Rattle.std.proofs.Common.{◌≡◌, refl, sym, ap, ◌∙◌, ℕ, List}
 use Rattle.crystal_spec.specs.Matrices.{Triple, Matrix, image}
+use Rattle.crystal_spec.specs.Moments.{turn_matrix}
 use Rattle.crystal_spec.specs.Crystals.{Site, Structure, position_after}
 use Rattle.crystal_spec.specs.Operations.{Operation, ListsAll}
 use Rattle.crystal_spec.proofs.Images.{occupied_itself}
@@ -42,7 +43,7 @@ pub one_species : (c b : Structure) (r : Matrix) (os : List Operation) → SameC
 one_species c b r os same one all x y mx my h =
     let o = h.operation in
     let from = (same.crystal x.species x.position x.moment).0 (occupied_itself c x mx) in
-    let to = (((all.exact o).0 h.of_list).keeps.crystal x.species (image r x.position) (image r x.moment)).0 from in
+    let to = (((all.exact o).0 h.of_list).keeps.crystal x.species (image r x.position) (image (turn_matrix c.kind r) x.moment)).0 from in
     let at = (same.crystal y.species y.position y.moment).0 (occupied_itself c y my) in
     let there : DiffersByCells b.n (position_after o.matrix o.translation (image r x.position)) to.site.position = record { cells = to.cells; is = to.same_position } in
     let here : DiffersByCells b.n (image r y.position) at.site.position = record { cells = at.cells; is = at.same_position } in

@@ -4,6 +4,7 @@ use Rattle.std.specs.Prelude.{◌↔◌, slice_get, Some}
 use Rattle.std.proofs.lemmas.Int.{ints}
 use Rattle.std.proofs.lemmas.Option.{slice_get_within}
 use Rattle.crystal_spec.specs.Matrices.{Triple, Matrix, image}
+use Rattle.crystal_spec.specs.Moments.{turn_matrix}
 use Rattle.crystal_spec.specs.Crystals.{Site, Structure}
 use Rattle.crystal_spec.specs.Increasing.{IsIncreasing, IsMember}
 use Rattle.crystal_spec.specs.Operations.{Operation, compare_of, ListsAll}
@@ -61,7 +62,7 @@ module _ (c b : Structure) (r : Matrix) (os : List Operation) (cell : IsCell c) 
     size = counts;
     same_n = found.same_n ∙ same_m;
     site = lists;
-    product = orbit_stabilizer b os a.species q (image r a.moment) o.size o.site.operations primitive.n_at_least (one_atom_each_of_apart b apart) all group
+    product = orbit_stabilizer b os a.species q (image (turn_matrix c.kind r) a.moment) o.size o.site.operations primitive.n_at_least (one_atom_each_of_apart b apart) all group
         ((same.crystal a.species a.position a.moment).0 (occupied_itself c a (member_at c.sites i a at))) counts lists;
   }
     where

@@ -1,21 +1,18 @@
 -- The matrices of the operations of a cell with a reduced metric tensor have entries -1, 0 and 1.
-use Rattle.std.proofs.Common.{◌≡◌, refl, subst, ℤ, List}
+use Rattle.std.proofs.Common.{refl, sym, List}
 use Rattle.crystal_spec.specs.Matrices.{Matrix}
 use Rattle.crystal_spec.specs.Crystals.{Structure, KeepsMetric}
 use Rattle.crystal_spec.specs.Operations.{Operation, ListsAll}
 use Rattle.crystal_spec.proofs.Entrywise.{matrix_same}
 use Rattle.lattice_spec.specs.Niggli.{IsNiggli}
-use Rattle.lattice_spec.specs.Tensor.{Tensor, tensor_matrix}
 use Rattle.crystal.specs.Bounds.{EntriesAtMost}
 use Rattle.crystal.specs.Cells.{IsSymmetric}
-use Rattle.lattice_iso.proofs.ByColumns.{isometry_entries}
+use Rattle.lattice_iso.proofs.ByColumns.{entries_of_short}
 use Rattle.site_orbits.specs.Images.{HasSmallEntries}
 
 isometry_small : (g w : Matrix) → IsNiggli g → IsSymmetric g → KeepsMetric g w → EntriesAtMost 1 w
 isometry_small g w niggli symmetric keeps =
-    let s : Tensor ℤ = record { aa = g.a11; bb = g.a22; cc = g.a33; bc = g.a23; ac = g.a13; ab = g.a12 } in
-    let is : g ≡ tensor_matrix s = matrix_same refl refl refl symmetric.ab refl refl symmetric.ac symmetric.bc refl in
-    isometry_entries s w niggli.main (subst (λ (m : Matrix). KeepsMetric m w) is keeps)
+    entries_of_short g w (matrix_same refl symmetric.ab symmetric.ac (sym symmetric.ab) refl symmetric.bc (sym symmetric.ac) (sym symmetric.bc) refl) niggli.main keeps
 
 -- each keeps the metric tensor
 pub small_of_all : (c : Structure) (os : List Operation) → IsNiggli c.metric → IsSymmetric c.metric → ListsAll c os → HasSmallEntries os

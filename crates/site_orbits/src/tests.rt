@@ -9,7 +9,7 @@ ghost use Rattle.crystal.specs.Bounds.{EntriesAtMost, CoordinatesAtMost};
 ghost use Rattle.prim_cell.specs.Sizes.{HasSizesOfRead};
 
 use crate::{Orbits, orbits};
-use crystal::{Atom, Cell, Metric, Name, Places, Steps};
+use crystal::{Atom, Cell, Metric, MomentKind, Name, Places, Steps};
 use exact_num::Int;
 use mag_ops::full_group;
 use matrix3::Vec3;
@@ -152,7 +152,11 @@ fn one_atom(alloc: Global, metric: Metric, first: Atom) -> Result<Cell, Fail>
     if !is_within(first.place) {
         return Err(Fail::new("the atom is outside the cell"));
     }
-    let cell = Cell::build(alloc, whole(1), metric, 6, 1, name, first)?;
+    let kind = MomentKind {
+        vector: true,
+        axial: true,
+    };
+    let cell = Cell::build(alloc, whole(1), metric, 6, 1, kind, name, first)?;
     Ok(cell)
 }
 
@@ -166,6 +170,9 @@ fn put(alloc: Global, cell: &mut Cell, next: Atom) -> Result<(), Fail>
 {
     if cell.n() != 6 || cell.names() == 0 || cell.count() >= 512 || !is_within(next.place) {
         return Err(Fail::new("no atom can be there"));
+    }
+    if !cell.kind().vector {
+        return Err(Fail::new("the moments are scalars"));
     }
     let places = Places::new(alloc, cell)?;
     if places.occupant(next.place).is_some() {

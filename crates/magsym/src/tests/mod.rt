@@ -1,4 +1,8 @@
 // What runs answer over inputs and outputs in memory. All values come from the description of the formats.
+//
+// A test is proved before it is run, and what takes long to prove is a value that is dropped beside ways out and tables that
+// a body builds. So each test is one call over a constant table: a row has the words, the input and how the run has to end,
+// `first_wrong` goes through the rows, and what a run owns stands in `holds_over` alone.
 mod dataset;
 mod faults;
 mod oblique;
@@ -22,39 +26,89 @@ const MOST: usize = 10;
 /// A simple cubic ferromagnet.
 const CUBIC: &[u8] = b"magcell 1\nmetric 1 1 1 0 0 0\natom A 0 0 0 0 0 1\nend\n";
 
-/// How a run ended, and what it left.
+/// A simple cubic crystal without moments: 48 operations, each with and without time reversal.
+const NONMAGNETIC: &[u8] = b"magcell 1\nmetric 1 1 1 0 0 0\natom A 0 0 0\nend\n";
+
+/// Opposite moments along c, one behind the other: a crystal of type IV.
+const CHAIN: &[u8] =
+    b"magcell 1\nmetric 1 1 4 0 0 0\natom A 0 0 0 0 0 1\natom A 0 0 1/2 0 0 -1\nend\n";
+
+/// A cell of twice the length of the primitive one.
+const DOUBLED: &[u8] = b"magcell 1\nmetric 4 1 1 0 0 0\natom A 0 0 0\natom A 1/2 0 0\nend\n";
+
+/// A moment in no special direction.
+const TILTED: &[u8] = b"magcell 1\nmetric 4 5 6 1 1 1\natom X 0 0 0 1 2 3\nend\n";
+
+/// One face of a long cell is centred, so the primitive cell is oblique.
+const CENTRED: &[u8] =
+    b"magcell 1\nmetric 1 1 1000000000 0 0 0\natom A 0 0 0\natom A 1/2 0 1/2\nend\n";
+
+/// Manganese fluoride, of the structure of rutile, with opposite moments along c.
+const RUTILE: &[u8] =
+    b"magcell 1\nmetric 2375/100 2375/100 1096/100 0 0 0\natom Mn 0 0 0 0 0 1\natom Mn 1/2 1/2 1/2 0 0 -1\n\
+atom F 61/200 61/200 0\natom F -61/200 -61/200 0\natom F 161/200 39/200 1/2\natom F 39/200 161/200 1/2\nend\n";
+
+/// How a run has to end.
+enum Ends {
+    /// With these bytes as the report.
+    Whole(&'static [u8]),
+
+    /// With a report of so many lines, and these bytes at its front, somewhere, and at its end.
+    Parts(usize, &'static [u8], &'static [u8], &'static [u8]),
+
+    /// With no report, but this exit status and line.
+    Refused(u8, &'static [u8]),
+
+    /// As the call of this number of the input fails.
+    ReadFails(u64),
+
+    /// As the call of this number of the output fails, behind these bytes.
+    WriteFails(u64, &'static [u8]),
+
+    /// With this exit status, as the call of this number of the error stream fails, behind these bytes.
+    TellFails(u64, u8, &'static [u8]),
+}
+
+/// The words, the input, and how the run over them has to end.
+struct Row(&'static str, &'static [u8], Ends);
+
+/// The input, the output and the error stream of a run.
 #[derive(Drop)]
-struct Ran {
-    status: Status,
+struct Streams {
     input: MemSource,
     out: MemSink,
     err: MemSink,
 }
 
-/// A run over these words and input. The call of this number fails on the input, the output and the error stream.
-fn answer_to(
-    alloc: Global,
-    words: &[&[u8]],
-    input: &[u8],
-    fails: [u64; 3],
-) -> Result<Ran, AllocError> {
+/// These words, which spaces part.
+fn asked(alloc: Global, words: &str) -> Result<Words, AllocError> {
     let mut asked = Words::new(alloc);
-    for word in words {
-        asked.push(Bytes::copy(alloc, word)?)?;
+    for word in words.split_whitespace() {
+        asked.push(Bytes::copy(alloc, word.as_bytes())?)?;
     }
-    let mut input = MemSource::new(alloc, input, MOST, &[fails[0]])?;
-    let mut out = MemSink::new(alloc, MOST, &[fails[1]])?;
-    let mut err = MemSink::new(alloc, MOST, &[fails[2]])?;
-    let blank = Blank::new(1);
-    let status = run_counted::<Brand, _, _, _>(
-        alloc, blank, &asked, &mut input, &mut out, &mut err,
-    );
-    Ok(Ran {
-        status,
-        input,
-        out,
-        err,
+    Ok(asked)
+}
+
+/// An input of these bytes, and two outputs that hold nothing.
+fn opened(alloc: Global, input: &[u8], fails: &[u64; 3]) -> Result<Streams, AllocError> {
+    Ok(Streams {
+        input: MemSource::new(alloc, input, MOST, &fails[0..1])?,
+        out: MemSink::new(alloc, MOST, &fails[1..2])?,
+        err: MemSink::new(alloc, MOST, &fails[2..3])?,
     })
+}
+
+/// How the run over these words and streams ends.
+fn ran(alloc: Global, words: &Words, streams: &mut Streams) -> Status {
+    let blank = Blank::new(1);
+    run_counted::<Brand, _, _, _>(
+        alloc,
+        blank,
+        words,
+        &mut streams.input,
+        &mut streams.out,
+        &mut streams.err,
+    )
 }
 
 /// How many lines there are.
@@ -69,5 +123,88 @@ fn has(text: &[u8], wanted: &[u8]) -> bool {
             return true;
         }
     }
-    false
+    wanted.is_empty()
+}
+
+/// Whether the report has so many lines, and these bytes at its front, somewhere, and at its end.
+fn is_like(report: &[u8], count: usize, front: &[u8], within: &[u8], end: &[u8]) -> bool {
+    lines(report) == count
+        && report.starts_with(front)
+        && has(report, within)
+        && report.ends_with(end)
+}
+
+impl Ends {
+    /// The numbers of the calls that fail on the input, the output and the error stream; 0 fails at none.
+    fn fails(&self) -> [u64; 3] {
+        match self {
+            Ends::ReadFails(call) => [*call, 0, 0],
+            Ends::WriteFails(call, _) => [0, *call, 0],
+            Ends::TellFails(call, _, _) => [0, 0, *call],
+            _ => [0, 0, 0],
+        }
+    }
+
+    /// The exit status.
+    fn number(&self) -> u8 {
+        match self {
+            Ends::Whole(_) | Ends::Parts(_, _, _, _) => 0,
+            Ends::Refused(number, _) | Ends::TellFails(_, number, _) => *number,
+            Ends::ReadFails(_) => 5,
+            Ends::WriteFails(_, _) => 6,
+        }
+    }
+
+    /// The bytes on the error stream.
+    fn line(&self) -> &'static [u8] {
+        match self {
+            Ends::Whole(_) | Ends::Parts(_, _, _, _) => b"",
+            Ends::Refused(_, line) | Ends::TellFails(_, _, line) => line,
+            Ends::ReadFails(_) => b"magsym: reading failed\n",
+            Ends::WriteFails(_, _) => b"magsym: writing failed\n",
+        }
+    }
+
+    /// Whether these bytes may be on the output.
+    fn allows(&self, report: &[u8]) -> bool {
+        match self {
+            Ends::Whole(bytes) | Ends::WriteFails(_, bytes) => report == *bytes,
+            Ends::Parts(count, front, within, end) => is_like(report, *count, front, within, end),
+            _ => report.is_empty(),
+        }
+    }
+}
+
+/// Whether the run ended so.
+fn is_wanted(status: &Status, streams: &Streams, ends: &Ends) -> bool {
+    status.number() == ends.number()
+        && ends.allows(streams.out.held())
+        && streams.err.held() == ends.line()
+}
+
+/// Whether the run over these words and this input ends so.
+fn holds_over(alloc: Global, words: &str, input: &[u8], ends: &Ends) -> Result<bool, AllocError> {
+    let words = asked(alloc, words)?;
+    let mut streams = opened(alloc, input, &ends.fails())?;
+    let status = ran(alloc, &words, &mut streams);
+    Ok(is_wanted(&status, &streams, ends))
+}
+
+/// How the run of the row ends.
+fn status_of(alloc: Global, row: &Row) -> Result<Status, AllocError> {
+    let Row(words, input, ends) = row;
+    let words = asked(alloc, words)?;
+    let mut streams = opened(alloc, input, &ends.fails())?;
+    Ok(ran(alloc, &words, &mut streams))
+}
+
+/// The number, from 0, of the first row whose run does not end so; the number of rows where there is none.
+fn first_wrong(alloc: Global, rows: &[Row]) -> usize {
+    for i in 0..rows.len() {
+        let Row(words, input, ends) = &rows[i];
+        if holds_over(alloc, words, input, ends) != Ok(true) {
+            return i;
+        }
+    }
+    rows.len()
 }

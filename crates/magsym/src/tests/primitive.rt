@@ -1,86 +1,74 @@
 // The command `primitive`: the text of the primitive cell, and Q.
-use super::answer_to;
+use super::Ends::{Parts, Whole, WriteFails};
+use super::{CHAIN, DOUBLED, NONMAGNETIC, Row, first_wrong, status_of};
 use crate::status::{Kept, Status};
-use exact_num::Int;
-use matrix3::Mat3;
-use std::test::Fail;
+use std::alloc::Global;
 
-/// The diagonal matrix of these entries.
-fn diagonal(entries: [i128; 3]) -> Result<Mat3<Int>, Fail> {
-    let [a, b, c] = entries;
-    let zero = Int::new(0).ok_or("0 is too large")?;
-    Ok(Mat3 {
-        a11: Int::new(a).ok_or("the entry is too large")?,
-        a12: zero,
-        a13: zero,
-        a21: zero,
-        a22: Int::new(b).ok_or("the entry is too large")?,
-        a23: zero,
-        a31: zero,
-        a32: zero,
-        a33: Int::new(c).ok_or("the entry is too large")?,
-    })
-}
+/// Primitive cells along the axes, and one whose output fails.
+#[rattlefmt::skip]
+const ALONG_THE_AXES: &[Row] = &[
+    Row("primitive", CHAIN,
+        Whole(b"magcell 1\n# index 1\n# back 1 0 0 0 1 0 0 0 1\nmetric 1 1 4 0 0 0\natom A 0 0 0 0 0 1\n\
+atom A 0 0 1/2 0 0 -1\nend\n")),
+    Row("primitive", DOUBLED,
+        Whole(b"magcell 1\n# index 2\n# back 2 0 0 0 1 0 0 0 1\nmetric 1 1 1 0 0 0\natom A 0 0 0\nend\n")),
+    Row("primitive", NONMAGNETIC, WriteFails(2, b"magcell 1\n")),
+];
 
-#[test]
-fn a_primitive_cell_along_the_axes(rt: HostRuntime) -> Result<(), Fail> {
-    for (input, entries, report) in [
-        (
-            b"magcell 1\nmetric 1 1 4 0 0 0\natom A 0 0 0 0 0 1\natom A 0 0 1/2 0 0 -1\nend\n".as_slice(),
-            [1, 1, 1],
-            b"magcell 1\n# index 1\n# back 1 0 0 0 1 0 0 0 1\nmetric 1 1 4 0 0 0\natom A 0 0 0 0 0 1\n\
-atom A 0 0 1/2 0 0 -1\nend\n"
-                .as_slice(),
-        ),
-        (
-            b"magcell 1\nmetric 4 1 1 0 0 0\natom A 0 0 0\natom A 1/2 0 0\nend\n",
-            [2, 1, 1],
-            b"magcell 1\n# index 2\n# back 2 0 0 0 1 0 0 0 1\nmetric 1 1 1 0 0 0\natom A 0 0 0\nend\n",
-        ),
-    ] {
-        let ran = answer_to(rt.alloc(), &[b"primitive"], input, [0, 0, 0])?;
-        assert_eq!(rt; ran.status, Status::Done(Kept::Back(diagonal(entries)?)));
-        assert_eq!(rt; ran.status.number(), 0);
-        assert_eq!(rt; ran.out.held(), report);
-        assert_eq!(rt; ran.err.held(), b"".as_slice());
+/// Cells of another basis than the reduced one.
+#[rattlefmt::skip]
+const REDUCED: &[Row] = &[
+    Row("primitive", b"magcell 1\nmetric 4 4 6 -1 0 0\natom A 0 0 0\nend\n",
+        Parts(6, b"magcell 1\n# index 1\n# back ", b"", b"\nmetric 4 4 6 0 -1 0\natom A 0 0 0\nend\n")),
+    Row("primitive", b"magcell 1\nmetric 1 50 1 0 0 7\natom A 0 0 0\nend\n",
+        Parts(6, b"magcell 1\n# index 1\n# back ", b"", b"\nmetric 1 1 1 0 0 0\natom A 0 0 0\nend\n")),
+    Row("primitive", b"magcell 1\nmetric 1 1 1 0 0 0\natom A 0 0 0\natom A 1/2 1/2 1/2\nend\n",
+        Parts(6, b"magcell 1\n# index 2\n# back ", b"", b"\nmetric 3/4 3/4 3/4 -1/4 -1/4 -1/4\natom A 0 0 0\nend\n")),
+];
+
+/// The entries of Q, row by row, where the status keeps it.
+fn entries(status: &Status) -> Option<[i128; 9]> {
+    match status {
+        Status::Done(Kept::Back(q)) | Status::WriteFault(10, Kept::Back(q)) => Some([
+            q.a11.get(),
+            q.a12.get(),
+            q.a13.get(),
+            q.a21.get(),
+            q.a22.get(),
+            q.a23.get(),
+            q.a31.get(),
+            q.a32.get(),
+            q.a33.get(),
+        ]),
+        _ => None,
     }
-    Ok(())
 }
 
-#[test]
-fn reports_have_the_index_and_the_reduced_cell(rt: HostRuntime) -> Result<(), Fail> {
-    for (input, first, last) in [
-        (
-            b"magcell 1\nmetric 4 4 6 -1 0 0\natom A 0 0 0\nend\n".as_slice(),
-            b"magcell 1\n# index 1\n# back ".as_slice(),
-            b"\nmetric 4 4 6 0 -1 0\natom A 0 0 0\nend\n".as_slice(),
-        ),
-        (
-            b"magcell 1\nmetric 1 50 1 0 0 7\natom A 0 0 0\nend\n",
-            b"magcell 1\n# index 1\n# back ",
-            b"\nmetric 1 1 1 0 0 0\natom A 0 0 0\nend\n",
-        ),
-        (
-            b"magcell 1\nmetric 1 1 1 0 0 0\natom A 0 0 0\natom A 1/2 1/2 1/2\nend\n",
-            b"magcell 1\n# index 2\n# back ",
-            b"\nmetric 3/4 3/4 3/4 -1/4 -1/4 -1/4\natom A 0 0 0\nend\n",
-        ),
-    ] {
-        let ran = answer_to(rt.alloc(), &[b"primitive"], input, [0, 0, 0])?;
-        let held = ran.out.held();
-        assert_eq!(rt; ran.status.number(), 0);
-        assert!(rt; held.starts_with(first));
-        assert!(rt; held.ends_with(last));
+/// Whether the run of the row keeps the diagonal matrix of these entries as Q.
+fn keeps(alloc: Global, row: &Row, diagonal: [i128; 3]) -> bool {
+    let [a, b, c] = diagonal;
+    match status_of(alloc, row) {
+        Ok(status) => entries(&status) == Some([a, 0, 0, 0, b, 0, 0, 0, c]),
+        Err(_) => false,
     }
-    Ok(())
 }
 
 #[test]
-fn an_output_that_fails_is_told_with_q(rt: HostRuntime) -> Result<(), Fail> {
-    let input = b"magcell 1\nmetric 1 1 1 0 0 0\natom A 0 0 0\nend\n".as_slice();
-    let ran = answer_to(rt.alloc(), &[b"primitive"], input, [0, 2, 0])?;
-    let q = diagonal([1, 1, 1])?;
-    assert_eq!(rt; ran.status, Status::WriteFault(10, Kept::Back(q)));
-    assert_eq!(rt; ran.out.held(), b"magcell 1\n".as_slice());
-    Ok(())
+fn a_primitive_cell_along_the_axes(rt: HostRuntime) {
+    assert_eq!(rt;
+        first_wrong(rt.alloc(), ALONG_THE_AXES),
+        ALONG_THE_AXES.len()
+    );
+}
+
+#[test]
+fn reports_have_the_index_and_the_reduced_cell(rt: HostRuntime) {
+    assert_eq!(rt; first_wrong(rt.alloc(), REDUCED), REDUCED.len());
+}
+
+#[test]
+fn statuses_keep_q(rt: HostRuntime) {
+    assert!(rt; keeps(rt.alloc(), &ALONG_THE_AXES[0], [1, 1, 1]));
+    assert!(rt; keeps(rt.alloc(), &ALONG_THE_AXES[1], [2, 1, 1]));
+    assert!(rt; keeps(rt.alloc(), &ALONG_THE_AXES[2], [1, 1, 1]));
 }

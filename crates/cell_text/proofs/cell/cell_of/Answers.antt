@@ -32,6 +32,9 @@ add_atom-requires-clause-n_at_most c = subst (λ (m : ℕ). m ≤ 1000000) (sym 
 pub add_atom-requires-clause-k_at_most : goal.add_atom-requires-clause-k_at_most
 add_atom-requires-clause-k_at_most c = subst (λ (m : ℕ). m ≤ 1000000) (sym (ap (λ (s : Structure). s.k) c.loop-atom.invariant.cell)) c.requires.k_at_most
 
+pub add_atom-requires-clause-kind : goal.add_atom-requires-clause-kind
+add_atom-requires-clause-kind c = ap (λ (s : Structure). s.kind) c.loop-atom.invariant.cell
+
 pub add_atom-requires-clause-free : goal.add_atom-requires-clause-free
 add_atom-requires-clause-free c =
     let atoms = c.args.atoms.now in

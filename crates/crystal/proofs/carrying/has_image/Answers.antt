@@ -1,8 +1,7 @@
 use Rattle.std.proofs.Common.{◌≡◌, ℕ, subst}
 use Rattle.std.specs.Prelude.{IsTrue, ◌↔◌}
-use Rattle.crystal_spec.specs.Matrices.{Triple}
-use Rattle.crystal_spec.specs.Crystals.{position_after, moment_after}
-use Rattle.crystal_spec.specs.Operations.{sign_factor}
+use Rattle.crystal_spec.specs.Matrices.{Triple, image}
+use Rattle.crystal_spec.specs.Crystals.{position_after}
 use Rattle.crystal.specs.Views.{site_of, triple_of}
 use Rattle.crystal.specs.Carrying.{FoldsTo}
 use Rattle.crystal.proofs.ImageLemmas.{occupied_at, unoccupied_at}
@@ -11,7 +10,7 @@ use Rattle.crystal.proofs.carrying.has_image.Goals as goal
 pub returns-in-Some : goal.returns-in-Some
 returns-in-Some c =
     let p = position_after c.args.w.now (triple_of c.args.shift) (triple_of c.args.atom.now.place) in
-    let m = moment_after c.args.w.now (sign_factor c.args.sign) c.args.atom.now.moment in
+    let m = image c.args.moments.now c.args.atom.now.moment in
     let q = triple_of c.carried_place-place.result in
     let f = subst (λ (n : ℕ). FoldsTo n p q) c.n.ensures c.carried_place-place.ensures in
     let b = site_of c.atom.result.now in
@@ -21,7 +20,7 @@ returns-in-Some c =
 pub returns-in-None : goal.returns-in-None
 returns-in-None c =
     let p = position_after c.args.w.now (triple_of c.args.shift) (triple_of c.args.atom.now.place) in
-    let m = moment_after c.args.w.now (sign_factor c.args.sign) c.args.atom.now.moment in
+    let m = image c.args.moments.now c.args.atom.now.moment in
     let q = triple_of c.carried_place-place.result in
     let f = subst (λ (n : ℕ). FoldsTo n p q) c.n.ensures c.carried_place-place.ensures in
     ((λ t. absurd (cc t)), (λ o. absurd (unoccupied_at c.args.cell.now c.count-form.ensures.form c.args.atom.now.species p m q f c.in-None.ensures.absent o)))

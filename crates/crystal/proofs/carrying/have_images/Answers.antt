@@ -1,5 +1,4 @@
 use Rattle.std.proofs.Common.{◌≡◌, ◌∙◌, true, subst, sym}
-use Rattle.crystal_spec.specs.Operations.{sign_factor}
 use Rattle.crystal.specs.Views.{site_of, triple_of}
 use Rattle.crystal.specs.Carrying.{HaveImages}
 use Rattle.crystal.proofs.ImageLemmas.{drop_at, member_at, image_member}
@@ -8,12 +7,12 @@ use Rattle.crystal.proofs.carrying.have_images.Goals as goal
 pub returns-then-not-has_image : goal.returns-then-not-has_image
 returns-then-not-has_image c =
     let x = site_of c.atom.result.now in
-    let image = λ (h : HaveImages c.args.cell.now c.args.w.now (triple_of c.args.shift) (sign_factor c.args.sign) c.args.cell.now.sites).
-    image_member c.args.cell.now c.args.w.now (triple_of c.args.shift) (sign_factor c.args.sign) c.args.cell.now.sites x h (member_at c.args.cell.now.sites c.loop-i.i x c.atom.ensures.value) in
+    let image = λ (h : HaveImages c.args.cell.now c.args.w.now (triple_of c.args.shift) c.args.moments.now c.args.cell.now.sites).
+    image_member c.args.cell.now c.args.w.now (triple_of c.args.shift) c.args.moments.now c.args.cell.now.sites x h (member_at c.args.cell.now.sites c.loop-i.i x c.atom.ensures.value) in
     ((λ t. absurd (cc t)), (λ h. let yes : c.has_image.result ≡ true = c.has_image.ensures.1 (image h) in sym c.if-not-has_image.true ∙ yes))
 
 pub loop-i-preserved : goal.loop-i-preserved
 loop-i-preserved c h =
     let x = site_of c.atom.result.now in
-    c.loop-i.invariant (subst (HaveImages c.args.cell.now c.args.w.now (triple_of c.args.shift) (sign_factor c.args.sign)) (sym (drop_at c.args.cell.now.sites c.loop-i.i x c.atom.ensures.value))
+    c.loop-i.invariant (subst (HaveImages c.args.cell.now c.args.w.now (triple_of c.args.shift) c.args.moments.now) (sym (drop_at c.args.cell.now.sites c.loop-i.i x c.atom.ensures.value))
     (c.has_image.ensures.0 c.if-not-has_image.false, h))

@@ -12,4 +12,5 @@ loop-at-preserved g c =
       out = then_appended _ _ _ c.args.bytes.now c.loop-at.at c.in-Ok.count c.loop-at.invariant.out piece;
       within = omega (arith, some, ap length rest, length-drop c.loop-at.at c.args.bytes.now);
       later = omega (arith, c.write.ensures.cause.later, c.loop-at.invariant.later);
+      untouched = λ e. absurd (omega (arith, some, e));
     }

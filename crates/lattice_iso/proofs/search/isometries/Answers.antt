@@ -1,19 +1,19 @@
 use Rattle.std.proofs.Common.{rules}
 use Rattle.lattice_iso.specs.Columns.{ListsOfLength}
-use Rattle.lattice_iso.proofs.ByColumns.{tensor_of, isometry_entries, result_listed}
+use Rattle.lattice_iso.proofs.ByColumns.{tensor_of, entries_of_short, result_listed}
 use Rattle.lattice_iso.proofs.search.isometries.Goals as goal
 
 pub returns-in_err-first-clause-entries : goal.returns-in_err-first-clause-entries
-returns-in_err-first-clause-entries c w k = isometry_entries (tensor_of c.args.metric.now) w c.requires.niggli.main k
+returns-in_err-first-clause-entries c g w symmetric short k = entries_of_short g w symmetric short k
 
 pub returns-in_err-second-clause-entries : goal.returns-in_err-second-clause-entries
-returns-in_err-second-clause-entries c w k = isometry_entries (tensor_of c.args.metric.now) w c.requires.niggli.main k
+returns-in_err-second-clause-entries c g w symmetric short k = entries_of_short g w symmetric short k
 
 pub returns-in_err-third-clause-entries : goal.returns-in_err-third-clause-entries
-returns-in_err-third-clause-entries c w k = isometry_entries (tensor_of c.args.metric.now) w c.requires.niggli.main k
+returns-in_err-third-clause-entries c g w symmetric short k = entries_of_short g w symmetric short k
 
 pub returns-clause-entries : goal.returns-clause-entries
-returns-clause-entries c w k = isometry_entries (tensor_of c.args.metric.now) w c.requires.niggli.main k
+returns-clause-entries c g w symmetric short k = entries_of_short g w symmetric short k
 
 pub returns-clause-exact : goal.returns-clause-exact
 returns-clause-exact c =

@@ -6,6 +6,7 @@ use Rattle.report_text.specs.PrimitiveText.{cell_in_basis_text}
 use Rattle.magsym.specs.declared.command.Command.TheVariants.{Primitive}
 use Rattle.magsym.specs.declared.status.Kept.{Kept}
 use Rattle.magsym.specs.Outcomes.{IsReport, IsPrimitiveReport}
+use Rattle.magsym.proofs.OneReport.{pure_counted}
 use Rattle.magsym.proofs.SpelledSizes.{spelled_sizes}
 use Rattle.magsym.proofs.report.primitive_report.Goals as goal
 
@@ -24,6 +25,7 @@ returns c =
       niggli = subst (λ (t : Structure). IsNiggli t.metric) made.cell made.niggli;
       index = p.index;
       index_is = made.index;
+      counted = pure_counted s p.shifts.operations p.index made.shifts made.count;
       lines = c.in_ok-text.ensures ∙ ap (cell_in_basis_text p.index p.back) made.cell;
     } in
     subst (λ (k : Kept). IsReport Primitive s k c.in_ok-text.text) (sym c.kept.ensures) report

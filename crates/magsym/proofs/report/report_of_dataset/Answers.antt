@@ -14,6 +14,7 @@ use Rattle.report_text.proofs.DatasetLemmas.{firsts_below}
 use Rattle.magsym.specs.declared.command.Command.TheVariants.{Dataset}
 use Rattle.magsym.specs.declared.status.Kept.{Kept}
 use Rattle.magsym.specs.Outcomes.{IsReport, IsDatasetReport}
+use Rattle.magsym.proofs.OneReport.{pure_counted}
 use Rattle.magsym.proofs.SpelledSizes.{spelled_sizes}
 use Rattle.magsym.proofs.report.report_of_dataset.Goals as goal
 
@@ -60,6 +61,7 @@ returns g c =
       niggli = subst (λ (t : Structure). IsNiggli t.metric) made.cell made.niggli;
       index = p.index;
       index_is = made.index;
+      counted = pure_counted s p.shifts.operations p.index made.shifts made.count;
       operations = os;
       all = subst (λ (t : Structure). ListsAll t os) made.cell c.in_ok-group.ensures.exact;
       operations_of_cell = c.in_ok-listed.listed.operations;

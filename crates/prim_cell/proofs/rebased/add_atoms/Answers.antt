@@ -1,4 +1,5 @@
 use Rattle.std.proofs.Common.{◌≡◌, ◌<◌, ℕ, List, [], ◌∷◌, ◌++◌, length, map, take, subst, sym, ap, ◌∙◌, arith}
+use Rattle.crystal_spec.specs.declared.MomentKind.{MomentKind}
 use Rattle.crystal_spec.specs.Crystals.{Site, Structure}
 use Rattle.crystal.specs.Views.{site_of}
 use Rattle.crystal.specs.Cells.{IsSiteOf}
@@ -13,25 +14,29 @@ atom_in_basis-requires-clause-moment c = c.requires.moments (site_of c.atom.resu
 pub put-requires-clause-site : goal.put-requires-clause-site
 put-requires-clause-site c =
     let s = c.args.cell.now in
+    let b = site_of c.atom_in_basis.result in
     let names = ap (λ (t : Structure). t.names) c.loop-i.invariant ∙ c.requires.names in
     let n = ap (λ (t : Structure). t.n) c.loop-i.invariant ∙ c.requires.n in
-    subst (λ (l : List (List ℕ)). IsSiteOf (length l) c.loop-i.made.n (site_of c.atom_in_basis.result)) (sym names)
-    (subst (λ (m : ℕ). IsSiteOf (length s.names) m (site_of c.atom_in_basis.result)) (sym n)
-    (site_rebased s c.count-i-end.ensures.form c.n-n.result c.n-n.ensures c.args.r.now (site_of c.atom.result.now) (site_of c.atom_in_basis.result) c.atom.ensures.form c.atom_in_basis.ensures.value c.atom_in_basis.ensures.moment))
+    let kind = ap (λ (t : Structure). t.kind) c.loop-i.invariant ∙ c.requires.kind in
+    let value = c.atom_in_basis.ensures.value ∙ ap (λ (k : MomentKind). site_in_basis c.n-n.result k c.args.r.now (site_of c.atom.result.now)) c.kind-kind.ensures in
+    subst (λ (k : MomentKind). IsSiteOf (length c.loop-i.made.names) c.loop-i.made.n k b) (sym kind)
+    (subst (λ (l : List (List ℕ)). IsSiteOf (length l) c.loop-i.made.n s.kind b) (sym names)
+    (subst (λ (m : ℕ). IsSiteOf (length s.names) m s.kind b) (sym n)
+    (site_rebased s c.count-i-end.ensures.form c.n-n.result c.n-n.ensures c.args.r.now (site_of c.atom.result.now) b c.atom.ensures.form value c.atom_in_basis.ensures.moment)))
 
 pub put-requires-clause-fewer : goal.put-requires-clause-fewer
 put-requires-clause-fewer c =
     let s = c.args.cell.now in
     let below : c.loop-i.i < length s.sites = omega (arith, c.count-i-end.ensures.value, c.loop-i-test.true) in
-    subst (λ (l : List Site). length l < 512) (sym (ap (λ (t : Structure). t.sites) c.loop-i.invariant)) (few_so_far (site_in_basis s.n c.args.r.now) s.sites c.loop-i.i below c.count-i-end.ensures.form.few)
+    subst (λ (l : List Site). length l < 512) (sym (ap (λ (t : Structure). t.sites) c.loop-i.invariant)) (few_so_far (site_in_basis s.n s.kind c.args.r.now) s.sites c.loop-i.i below c.count-i-end.ensures.form.few)
 
 pub loop-i-preserved : goal.loop-i-preserved
 loop-i-preserved c =
     let s = c.args.cell.now in
     let i = c.loop-i.i in
     let x = site_of c.atom.result.now in
-    let f = site_in_basis s.n c.args.r.now in
-    let value : site_of c.atom_in_basis.result ≡ f x = c.atom_in_basis.ensures.value ∙ ap (λ (n : ℕ). site_in_basis n c.args.r.now x) c.n-n.ensures in
+    let f = site_in_basis s.n s.kind c.args.r.now in
+    let value : site_of c.atom_in_basis.result ≡ f x = c.atom_in_basis.ensures.value ∙ (λ j. site_in_basis (c.n-n.ensures j) (c.kind-kind.ensures j) c.args.r.now x) in
     c.in_ok-put.ensures (map f (take i s.sites)) (ap (λ (t : Structure). t.sites) c.loop-i.invariant)
     ∙ ap (λ (t : Structure). record t { sites = first_at_each_position (map f (take i s.sites) ++ site_of c.atom_in_basis.result ∷ []) }) c.loop-i.invariant
     ∙ ap (λ (l : List Site). record c.args.made.now { sites = first_at_each_position l }) (ap (λ (b : Site). map f (take i s.sites) ++ b ∷ []) value ∙ mapped_more f s.sites i x c.atom.ensures.value)

@@ -1,8 +1,11 @@
 use Rattle.std.proofs.Common.{◌≡◌, ℕ, List, [], ◌∷◌, subst, sym, ap, ◌∙◌}
 use Rattle.std.specs.Prelude.{◌*ℤ◌, Some}
 use Rattle.crystal_spec.specs.Matrices.{image}
+use Rattle.crystal_spec.specs.declared.MomentKind.{MomentKind}
+use Rattle.crystal_spec.specs.Moments.{IsOfKind}
 use Rattle.crystal_spec.specs.Crystals.{Site, Structure}
 use Rattle.crystal_spec.specs.Operations.{IsWithinCell}
+use Rattle.crystal_spec.proofs.Moments.{turn-of_kind}
 use Rattle.crystal.specs.Views.{site_of, metric_of}
 use Rattle.crystal.proofs.ImageLemmas.{member_at}
 use Rattle.basis_spec.specs.Bases.{site_in_basis}
@@ -19,15 +22,22 @@ build-requires-clause-place c =
     let s = c.args.cell.now in
     let a = site_of c.atom.result.now in
     subst (λ (m : ℕ). IsWithinCell m (site_of c.atom_in_basis-first.result).position) (sym c.n-2.ensures)
-    (subst (λ (x : Site). IsWithinCell s.n x.position) (sym (c.atom_in_basis-first.ensures.value ∙ ap (λ (m : ℕ). site_in_basis m c.args.r.now a) c.n.ensures)) (residue_within s.n (image c.args.r.now a.position) (some_cells s c.count-form.ensures.form)))
+    (subst (λ (x : Site). IsWithinCell s.n x.position) (sym (c.atom_in_basis-first.ensures.value ∙ (λ i. site_in_basis (c.n.ensures i) (c.kind-kind.ensures i) c.args.r.now a))) (residue_within s.n (image c.args.r.now a.position) (some_cells s c.count-form.ensures.form)))
+
+pub build-requires-clause-of_kind : goal.build-requires-clause-of_kind
+build-requires-clause-of_kind c =
+    let k = c.kind-kind.result in
+    let a = site_of c.atom.result.now in
+    let of_kind = subst (λ (kind : MomentKind). IsOfKind kind a.moment) (sym c.kind-kind.ensures) c.atom.ensures.form.of_kind in
+    subst (λ (x : Site). IsOfKind k x.moment) (sym c.atom_in_basis-first.ensures.value) (turn-of_kind k c.args.r.now a.moment of_kind)
 
 pub returns : goal.returns
 returns c =
     let s = c.args.cell.now in
     let a = site_of c.atom.result.now in
-    let value = c.atom_in_basis-first.ensures.value ∙ ap (λ (m : ℕ). site_in_basis m c.args.r.now a) c.n.ensures in
+    let value = c.atom_in_basis-first.ensures.value ∙ (λ i. site_in_basis (c.n.ensures i) (c.kind-kind.ensures i) c.args.r.now a) in
     let scale = c.mul-scale.ensures ∙ (λ i. c.mul.ensures i *ℤ c.scale.ensures i) ∙ (λ i. (c.whole.ensures.value i *ℤ c.whole-2.ensures.value i) *ℤ s.scale) ∙ (λ i. (c.requires.index i *ℤ c.requires.index i) *ℤ s.scale) in
     let name = c.name.ensures ∙ ap (λ (n : List ℕ). Some n) (sym c.copied-name.ensures) in
-    let built : ◌≡◌ {A = Structure} c.in_ok-made.made (record { names = c.copied-name.result ∷ []; scale = c.mul-scale.result; metric = metric_of c.args.metric; n = c.n-2.result; k = c.k.result; sites = site_of c.atom_in_basis-first.result ∷ [] }) = c.in_ok-made.ensures in
+    let built : ◌≡◌ {A = Structure} c.in_ok-made.made (record { names = c.copied-name.result ∷ []; scale = c.mul-scale.result; metric = metric_of c.args.metric; n = c.n-2.result; k = c.k.result; kind = c.kind-kind.result; sites = site_of c.atom_in_basis-first.result ∷ [] }) = c.in_ok-made.ensures in
     built
-    ∙ started_is s c.args.r.now c.copied-name.result a (site_of c.atom_in_basis-first.result) c.mul-scale.result (metric_of c.args.metric) c.n-2.result c.k.result name c.atom.ensures.value scale c.requires.metric c.n-2.ensures c.k.ensures value
+    ∙ started_is s c.args.r.now c.copied-name.result a (site_of c.atom_in_basis-first.result) c.mul-scale.result (metric_of c.args.metric) c.n-2.result c.k.result c.kind-kind.result name c.atom.ensures.value scale c.requires.metric c.n-2.ensures c.k.ensures c.kind-kind.ensures value

@@ -9,6 +9,9 @@ add_names-requires-clause-first c = (has_started c.args.cell.now c.in_ok-made.ma
 pub add_atoms-requires-clause-n : goal.add_atoms-requires-clause-n
 add_atoms-requires-clause-n c = ap (λ (s : Structure). s.n) c.in_ok-add_names.ensures ∙ (has_started c.args.cell.now c.in_ok-made.made c.args.r.now c.in_ok-made.ensures).n
 
+pub add_atoms-requires-clause-kind : goal.add_atoms-requires-clause-kind
+add_atoms-requires-clause-kind c = ap (λ (s : Structure). s.kind) c.in_ok-add_names.ensures ∙ (has_started c.args.cell.now c.in_ok-made.made c.args.r.now c.in_ok-made.ensures).kind
+
 pub add_atoms-requires-clause-names : goal.add_atoms-requires-clause-names
 add_atoms-requires-clause-names c = ap (λ (s : Structure). s.names) c.in_ok-add_names.ensures
 

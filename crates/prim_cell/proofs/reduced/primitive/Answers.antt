@@ -1,8 +1,11 @@
-use Rattle.std.proofs.Common.{subst, sym, ap, ◌∙◌}
+use Rattle.std.proofs.Common.{◌≡◌, length, subst, sym, ap, ◌∙◌}
 use Rattle.crystal_spec.specs.Crystals.{Structure}
+use Rattle.crystal.specs.Numbering.{AreByFirstUse}
 use Rattle.crystal.specs.Views.{metric_of}
 use Rattle.basis_spec.specs.Translations.{ListsPureTranslations}
 use Rattle.prim_cell.specs.Primitives.{PrimitiveCell, TakesToStepBasis}
+use Rattle.prim_cell.proofs.Moving.{some_cells}
+use Rattle.prim_cell.proofs.Numbering.{stays_numbered}
 use Rattle.prim_cell.proofs.ReducedBases.{is_primitive_cell}
 use Rattle.prim_cell.proofs.reduced.primitive.Goals as goal
 
@@ -19,3 +22,14 @@ new-requires-2 c =
 pub returns-clause-kept : goal.returns-clause-kept
 returns-clause-kept c =
     subst (λ (p : PrimitiveCell). TakesToStepBasis c.args.cell.now p.shifts.operations p.back) (sym c.new-2.ensures) c.reduced_basis-basis.ensures.kept
+
+pub returns-clause-count : goal.returns-clause-count
+returns-clause-count c =
+    subst (λ (p : PrimitiveCell). length p.shifts.operations ≡ p.index) (sym c.new-2.ensures) c.reduced_basis-basis.ensures.count
+
+pub returns-clause-numbered : goal.returns-clause-numbered
+returns-clause-numbered c =
+    let s = c.args.cell.now in
+    let basis = c.reduced_basis-basis.result in
+    subst (λ (p : PrimitiveCell). AreByFirstUse 0 (length s.names) s.sites → AreByFirstUse 0 (length p.cell.names) p.cell.sites) (sym c.new-2.ensures)
+    (stays_numbered s basis.back (some_cells s c.count-form.ensures.form) c.reduced_basis-basis.ensures.primitive.same c.in_ok-made.made c.in_ok-made.ensures)

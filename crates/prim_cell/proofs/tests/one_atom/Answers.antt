@@ -6,4 +6,4 @@ use Rattle.prim_cell.proofs.Making.{sizes_of_one}
 use Rattle.prim_cell.proofs.tests.one_atom.Goals as goal
 
 pub returns : goal.returns
-returns c = sizes_of_one c.in_ok-cell.cell _ _ _ _ _ _ c.in_ok-cell.ensures (omega (arith, ints, c.whole.ensures.value)) (entries_grown (lit≤ tt) c.requires.entries) (coordinates_grown (lit≤ tt) c.atom-first.ensures.moment)
+returns c = sizes_of_one c.in_ok-cell.cell _ _ _ _ _ _ _ c.in_ok-cell.ensures (omega (arith, ints, c.whole.ensures.value)) (entries_grown (lit≤ tt) c.requires.entries) (coordinates_grown (lit≤ tt) c.atom-first.ensures.moment)

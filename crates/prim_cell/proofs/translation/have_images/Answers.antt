@@ -1,4 +1,4 @@
-use Rattle.std.proofs.Common.{◌≡◌, ◌∙◌, true, pos, subst, sym}
+use Rattle.std.proofs.Common.{◌≡◌, ◌∙◌, true, subst, sym}
 use Rattle.std.specs.Prelude.{slice_get, Some}
 use Rattle.crystal_spec.specs.Matrices.{identity}
 use Rattle.crystal_spec.specs.Crystals.{Structure}
@@ -12,7 +12,7 @@ returns-then-not-has_image c =
     let s = c.args.places.now in
     let x = site_of c.atom.result.now in
     let at = subst (λ (t : Structure). slice_get t.sites c.loop-i.i ≡ Some x) c.cell-cell.ensures c.atom.ensures.value in
-    let image = λ (h : HaveImages s identity (triple_of c.args.shift) (pos 1) s.sites). image_member s identity (triple_of c.args.shift) (pos 1) s.sites x h (member_at s.sites c.loop-i.i x at) in
+    let image = λ (h : HaveImages s identity (triple_of c.args.shift) identity s.sites). image_member s identity (triple_of c.args.shift) identity s.sites x h (member_at s.sites c.loop-i.i x at) in
     ((λ t. absurd (cc t)), (λ h. let yes : c.has_image.result ≡ true = c.has_image.ensures.1 (image h) in sym c.if-not-has_image.true ∙ yes))
 
 pub loop-i-preserved : goal.loop-i-preserved
@@ -20,5 +20,5 @@ loop-i-preserved c h =
     let s = c.args.places.now in
     let x = site_of c.atom.result.now in
     let at = subst (λ (t : Structure). slice_get t.sites c.loop-i.i ≡ Some x) c.cell-cell.ensures c.atom.ensures.value in
-    c.loop-i.invariant (subst (HaveImages s identity (triple_of c.args.shift) (pos 1)) (sym (drop_at s.sites c.loop-i.i x at))
+    c.loop-i.invariant (subst (HaveImages s identity (triple_of c.args.shift) identity) (sym (drop_at s.sites c.loop-i.i x at))
     (c.has_image.ensures.0 c.if-not-has_image.false, h))

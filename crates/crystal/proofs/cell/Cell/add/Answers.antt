@@ -16,6 +16,6 @@ invariant_of-self-2 c =
     let back = sym c.self.view_is in
     subst (λ (xs : List Site). IsCell (record s { sites = xs })) (sym is)
     (atom_more s (site_of c.args.atom) c.self.invariant
-    (subst (λ (t : Structure). IsSiteOf (length t.names) t.n (site_of c.args.atom)) back c.requires.site)
+    (subst (λ (t : Structure). IsSiteOf (length t.names) t.n t.kind (site_of c.args.atom)) back c.requires.site)
     (subst (λ (t : Structure). NoneAt (triple_of c.args.atom.place) t.sites) back c.requires.free)
     (subst (λ (t : Structure). length t.sites < 512) back c.requires.fewer))

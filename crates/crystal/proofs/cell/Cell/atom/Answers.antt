@@ -15,5 +15,5 @@ returns-clause-form c =
     let a = c.index.result.now in
     let below : c.args.i < length c.self.inside.atoms.items = subst (λ k. c.args.i < k) (length-map c.self.inside.atoms.items site_of) (subst (λ (t : Structure). c.args.i < length t.sites) (sym c.self.view_is) c.requires) in
     let at = slice_get-map site_of c.self.inside.atoms.items c.args.i a below (sym c.index.ensures) in
-    subst (λ (t : Structure). IsSiteOf (length t.names) t.n (site_of a)) c.self.view_is
-    (site_member (length s.names) s.n s.sites (site_of a) c.self.invariant.sites (member_at s.sites c.args.i (site_of a) at))
+    subst (λ (t : Structure). IsSiteOf (length t.names) t.n t.kind (site_of a)) c.self.view_is
+    (site_member (length s.names) s.n s.kind s.sites (site_of a) c.self.invariant.sites (member_at s.sites c.args.i (site_of a) at))

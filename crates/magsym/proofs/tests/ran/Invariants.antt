@@ -1,4 +1,4 @@
-use Rattle.magsym.proofs.tests.answer_to.Given as goal
+use Rattle.magsym.proofs.tests.ran.Given as goal
 
 -- the counter is that of the blank which is passed
 abbrev pub ghosts-run_counted : goal.ghosts-run_counted
