@@ -6,7 +6,7 @@ use Rattle.crystal_spec.specs.Matrices.{Matrix}
 use Rattle.crystal_spec.specs.Crystals.{Structure}
 use Rattle.prim_cell.specs.Primitives.{PrimitiveCell}
 use Rattle.cell_print.specs.CellFileText.{cell_lines_text}
-use Rattle.report_text.specs.PrimitiveText.{entries_text, cell_in_basis_text, primitive_text}
+use Rattle.report_text.specs.PrimitiveText.{entries_text, cell_in_basis_text}
 
 pieces : (a b d h e l s : List ℕ) → ((a ++ ((b ++ d) ++ s)) ++ ((h ++ e) ++ s)) ++ l ≡ (((((a ++ b) ++ d) ++ (s ++ h)) ++ e) ++ s) ++ l
 pieces a b d h e l s = simp append_assoc
@@ -24,6 +24,6 @@ cell_from_pieces index back cell n1 n2 n3 n4 e1 e2 e3 e4 =
     ∙ pieces (codes "magcell 1\n") (codes "# index ") (decimal index) (codes "# back") (entries_text back) (cell_lines_text cell) (codes "\n")
 
 -- the index, Q and the cell are those of the primitive cell
-pub primitive_from_parts : (p : PrimitiveCell) (index : ℕ) (back : Matrix) (cell : Structure) → index ≡ p.index → back ≡ p.back → cell ≡ p.cell → cell_in_basis_text index back cell ≡ primitive_text p
+pub primitive_from_parts : (p : PrimitiveCell) (index : ℕ) (back : Matrix) (cell : Structure) → index ≡ p.index → back ≡ p.back → cell ≡ p.cell → cell_in_basis_text index back cell ≡ cell_in_basis_text p.index p.back p.cell
 primitive_from_parts p index back cell i b c =
     ap (λ (n : ℕ). cell_in_basis_text n back cell) i ∙ ap (λ (q : Matrix). cell_in_basis_text p.index q cell) b ∙ ap (cell_in_basis_text p.index p.back) c

@@ -4,13 +4,11 @@
 -- line has LF at its end, and single spaces.
 --   entries_text q                     the entries of a matrix row by row, each behind a space
 --   cell_in_basis_text index back c    the text of a cell c in another basis, with this index and this Q
---   primitive_text p                   the text of a primitive cell
 -- The format is our own.
 use Rattle.std.specs.Prelude.{ℕ, ℤ, List, [], ◌∷◌, ◌++◌, codes}
 use Rattle.std.specs.Fmt.{decimal, signed_decimal}
 use Rattle.crystal_spec.specs.Matrices.{Matrix}
 use Rattle.crystal_spec.specs.Crystals.{Structure}
-use Rattle.prim_cell.specs.Primitives.{PrimitiveCell}
 use Rattle.cell_print.specs.CellFileText.{cell_lines_text}
 
 -- the integers in decimal, a space before each
@@ -26,7 +24,3 @@ entries_text q = integers_text (q.a11 ∷ q.a12 ∷ q.a13 ∷ q.a21 ∷ q.a22 �
 unfoldable pub cell_in_basis_text : ℕ → Matrix → Structure → List ℕ
 cell_in_basis_text index back c =
     codes "magcell 1\n# index " ++ decimal index ++ codes "\n# back" ++ entries_text back ++ codes "\n" ++ cell_lines_text c
-
--- the text of a primitive cell
-abbrev pub primitive_text : PrimitiveCell → List ℕ
-primitive_text p = cell_in_basis_text p.index p.back p.cell

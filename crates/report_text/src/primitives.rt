@@ -1,6 +1,6 @@
 // The text of a primitive cell.
 ghost use Rattle.std.specs.Prelude.{◌≡◌, ◌++◌, decimal, codes, IfOk, OnOk};
-ghost use Rattle.report_text.specs.PrimitiveText.{integers_text, entries_text, primitive_text};
+ghost use Rattle.report_text.specs.PrimitiveText.{integers_text, entries_text, cell_in_basis_text};
 
 use cell_print::push_cell;
 use exact_num::Int;
@@ -69,7 +69,7 @@ fn push_back(alloc: Global, out: &mut Bytes, back: &Mat3<Int>) -> Result<(), All
 ///
 /// The entries of Q stand row by row. Refuses for want of memory alone.
 pub fn prim_report(alloc: Global, prim: &Primitive) -> Result<Bytes, AllocError>
-    ensures { IfOk result (λ text. text ≡ primitive_text prim.now) }
+    ensures { IfOk result (λ text. text ≡ cell_in_basis_text prim.now.index prim.now.back prim.now.cell) }
 {
     let mut out = Bytes::copy(alloc, b"magcell 1\n")?;
     push_index(alloc, &mut out, prim.index())?;
