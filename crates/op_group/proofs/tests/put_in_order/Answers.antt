@@ -19,18 +19,18 @@ all_within_pushed n (q ∷ os) p all within o (inr m) = all_within_pushed n os p
 below : (n : ℕ) (ts : List ℕ) → slice_index ts 0 < n → slice_index ts 1 < n → slice_index ts 2 < n → IsWithinCell n (translation_of ts)
 below n ts x y z = record { x = (omega (arith, ints), omega (arith, ints)); y = (omega (arith, ints), omega (arith, ints)); z = (omega (arith, ints), omega (arith, ints)) }
 
-pub loop-op-preserved : goal.loop-op-preserved
-loop-op-preserved c =
-    let op = c.op-item.result in
+pub loop-item-preserved : goal.loop-item-preserved
+loop-item-preserved c =
+    let op = c.operation-op.result in
     let P : List Op → Type 0 = λ l. AllWithinCell 4 (map operation_of l) in
     elim c.if-x-lt4.branch [
       | then-x-lt4+then-y-lt4+then-z-lt4+in_ok-push w ↦
-          let items : c.if-x-lt4.kept.items ≡ c.loop-op.kept.items ++ op ∷ [] = search rules in
+          let items : c.if-x-lt4.kept.items ≡ c.loop-item.kept.items ++ op ∷ [] = search rules in
           let x : slice_index op.shift 0 < 4 = search rules in
           let y : slice_index op.shift 1 < 4 = search rules in
           let z : slice_index op.shift 2 < 4 = search rules in
-          subst P (sym items) (subst (AllWithinCell 4) (sym (map_push operation_of c.loop-op.kept.items op)) (all_within_pushed 4 _ (operation_of op) c.loop-op.invariant (below 4 op.shift x y z)))
+          subst P (sym items) (subst (AllWithinCell 4) (sym (map_push operation_of c.loop-item.kept.items op)) (all_within_pushed 4 _ (operation_of op) c.loop-item.invariant (below 4 op.shift x y z)))
       | else-x-lt4 w ↦
-          let items : c.if-x-lt4.kept.items ≡ c.loop-op.kept.items = search rules in
-          subst P (sym items) c.loop-op.invariant
+          let items : c.if-x-lt4.kept.items ≡ c.loop-item.kept.items = search rules in
+          subst P (sym items) c.loop-item.invariant
     ]

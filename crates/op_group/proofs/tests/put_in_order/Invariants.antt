@@ -4,5 +4,5 @@ use Rattle.op_group.specs.Views.{operation_of}
 use Rattle.op_group.proofs.tests.put_in_order.Given as goal
 
 -- those that were kept are within the cell
-abbrev pub invariant-loop-op : goal.invariant-loop-op
-invariant-loop-op l = AllWithinCell 4 (map operation_of l.kept.items)
+abbrev pub invariant-loop-item : goal.invariant-loop-item
+invariant-loop-item l = AllWithinCell 4 (map operation_of l.kept.items)
