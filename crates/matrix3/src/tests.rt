@@ -9,13 +9,66 @@ ghost use Rattle.matrix3.specs.Fits.{MatrixOfModulus, VectorOfModulus};
 use super::*;
 use exact_num::{Exact, Frac, Int, Residue};
 
+type Rows = [[i8; 3]; 3];
+
+const A: Rows = [[1, 2, 3], [4, 5, 6], [7, 8, 10]];
+
+const B: Rows = [[2, 0, -1], [1, 3, 0], [0, 1, 1]];
+
+const V: [i8; 3] = [1, -1, 2];
+
+/// Integers, and what they are modulo 7.
+struct Values([[i128; 3]; 3], [[u32; 3]; 3]);
+
+const A_TIMES_B: Values = Values(
+    [[4, 9, 2], [13, 21, 2], [22, 34, 3]],
+    [[4, 2, 2], [6, 0, 2], [1, 6, 3]],
+);
+
+const B_TIMES_A: [[i128; 3]; 3] = [[-5, -4, -4], [13, 17, 21], [11, 13, 16]];
+
+const TRANSPOSE_OF_A: Values = Values(
+    [[1, 4, 7], [2, 5, 8], [3, 6, 10]],
+    [[1, 4, 0], [2, 5, 1], [3, 6, 3]],
+);
+
+const ADJUGATE_OF_A: Values = Values(
+    [[2, 4, -3], [2, -11, 6], [-3, 6, -3]],
+    [[2, 4, 4], [2, 3, 6], [4, 6, 4]],
+);
+
+/// A matrix and its inverse, where its determinant is 1 or -1.
+struct Inverted(Rows, Option<[[i128; 3]; 3]>);
+
+#[rattlefmt::skip]
+const INVERSES: &[Inverted] = &[
+    Inverted([[1, 2, 3], [0, 1, 4], [5, 6, 0]], Some([[-24, 18, 5], [20, -15, -4], [-5, 4, 1]])),
+    Inverted([[0, 1, 0], [1, 1, 0], [0, 2, 1]], Some([[-1, 1, 0], [1, 0, 0], [-2, 0, 1]])),
+    Inverted(A, None),
+];
+
+/// What `calls_on_halves` gives, as numerators and denominators.
+#[rattlefmt::skip]
+const ON_HALVES: [[(i128, i128); 3]; 10] = [
+    [(1, 1), (3, 4), (0, 1)],
+    [(1, 1), (1, 4), (1, 1)],
+    [(1, 1), (0, 1), (0, 1)],
+    [(1, 1), (1, 2), (-1, 1)],
+    [(-1, 2), (1, 2), (0, 1)],
+    [(-1, 2), (-1, 1), (1, 2)],
+    [(1, 1), (-1, 1), (0, 1)],
+    [(1, 1), (2, 1), (-1, 1)],
+    [(3, 4), (1, 4), (-1, 1)],
+    [(-1, 2), (-1, 2), (-1, 2)],
+];
+
 fn int(v: i8) -> Int
     ensures { AtMost 128 result }
 {
     Int::new(v as i128).unwrap()
 }
 
-fn matrix(r: [[i8; 3]; 3]) -> Mat3<Int>
+fn matrix(r: Rows) -> Mat3<Int>
     ensures { EachEntry (AtMost 128) result }
 {
     Mat3 {
@@ -49,24 +102,24 @@ fn rows(a: Mat3<Int>) -> [[i128; 3]; 3] {
     ]
 }
 
-fn product(a: [[i8; 3]; 3], b: [[i8; 3]; 3]) -> [[i128; 3]; 3] {
+fn product(a: Rows, b: Rows) -> [[i128; 3]; 3] {
     rows(matrix(a).times(&matrix(b)))
 }
 
-fn image(a: [[i8; 3]; 3], v: [i8; 3]) -> [i128; 3] {
+fn image(a: Rows, v: [i8; 3]) -> [i128; 3] {
     let w = matrix(a).apply(&column(v));
     [w.x.get(), w.y.get(), w.z.get()]
 }
 
-fn determinant(a: [[i8; 3]; 3]) -> i128 {
+fn determinant(a: Rows) -> i128 {
     matrix(a).handed().get()
 }
 
-fn adjugate(a: [[i8; 3]; 3]) -> [[i128; 3]; 3] {
+fn adjugate(a: Rows) -> [[i128; 3]; 3] {
     rows(matrix(a).adjugate())
 }
 
-fn inverse(a: [[i8; 3]; 3]) -> Option<[[i128; 3]; 3]> {
+fn inverse(a: Rows) -> Option<[[i128; 3]; 3]> {
     let a = matrix(a);
     if a.handed().get().abs() == 1 {
         Some(rows(a.inverse_unit()))
@@ -81,7 +134,7 @@ fn residue(v: i8) -> Residue
     Residue::new(v as i128, 7)
 }
 
-fn matrix_of_residues(r: [[i8; 3]; 3]) -> Mat3<Residue>
+fn matrix_of_residues(r: Rows) -> Mat3<Residue>
     ensures { MatrixOfModulus modulus_of 7 result }
 {
     Mat3 {
@@ -115,20 +168,20 @@ fn residue_rows(a: Mat3<Residue>) -> [[u32; 3]; 3] {
     ]
 }
 
-fn residue_product(a: [[i8; 3]; 3], b: [[i8; 3]; 3]) -> [[u32; 3]; 3] {
+fn residue_product(a: Rows, b: Rows) -> [[u32; 3]; 3] {
     residue_rows(matrix_of_residues(a).times(&matrix_of_residues(b)))
 }
 
-fn residue_image(a: [[i8; 3]; 3], v: [i8; 3]) -> [u32; 3] {
+fn residue_image(a: Rows, v: [i8; 3]) -> [u32; 3] {
     let w = matrix_of_residues(a).apply(&column_of_residues(v));
     [w.x.get(), w.y.get(), w.z.get()]
 }
 
-fn residue_determinant(a: [[i8; 3]; 3]) -> u32 {
+fn residue_determinant(a: Rows) -> u32 {
     matrix_of_residues(a).handed().get()
 }
 
-fn residue_adjugate(a: [[i8; 3]; 3]) -> [[u32; 3]; 3] {
+fn residue_adjugate(a: Rows) -> [[u32; 3]; 3] {
     residue_rows(matrix_of_residues(a).adjugate())
 }
 
@@ -186,65 +239,57 @@ fn calls_on_halves() -> Option<[[(i128, i128); 3]; 10]> {
     ])
 }
 
+/// Whether the products of integers are these, in both orders.
+fn are_products() -> bool {
+    product(A, B) == A_TIMES_B.0 && product(B, A) == B_TIMES_A
+}
+
+/// Whether the transpose and the adjugate of integers are these.
+fn are_rearranged() -> bool {
+    rows(matrix(A).transpose()) == TRANSPOSE_OF_A.0 && adjugate(A) == ADJUGATE_OF_A.0
+}
+
 #[test]
 fn matrices_of_integers(rt: HostRuntime) {
-    let a = [[1, 2, 3], [4, 5, 6], [7, 8, 10]];
-    let b = [[2, 0, -1], [1, 3, 0], [0, 1, 1]];
-    assert_eq!(rt; product(a, b), [[4, 9, 2], [13, 21, 2], [22, 34, 3]]);
-    assert_eq!(rt; product(b, a), [[-5, -4, -4], [13, 17, 21], [11, 13, 16]]);
-    assert_eq!(rt; image(a, [1, -1, 2]), [5, 11, 19]);
-    assert_eq!(rt;
-        rows(matrix(a).transpose()),
-        [[1, 4, 7], [2, 5, 8], [3, 6, 10]]
-    );
-    assert_eq!(rt; determinant(a), -3);
-    assert_eq!(rt; determinant(b), 5);
-    assert_eq!(rt; adjugate(a), [[2, 4, -3], [2, -11, 6], [-3, 6, -3]]);
+    assert!(rt; are_products());
+    assert!(rt; image(A, V) == [5, 11, 19]);
+    assert!(rt; are_rearranged());
+    assert_eq!(rt; determinant(A), -3);
+    assert_eq!(rt; determinant(B), 5);
+}
+
+/// The number of the first matrix with another inverse; else how many there are.
+fn first_wrong_inverse() -> usize {
+    for i in 0..INVERSES.len() {
+        let Inverted(a, wanted) = &INVERSES[i];
+        if inverse(*a) != *wanted {
+            return i;
+        }
+    }
+    INVERSES.len()
 }
 
 #[test]
 fn inverse_matrices(rt: HostRuntime) {
-    assert_eq!(rt;
-        inverse([[1, 2, 3], [0, 1, 4], [5, 6, 0]]),
-        Some([[-24, 18, 5], [20, -15, -4], [-5, 4, 1]])
-    );
-    assert_eq!(rt;
-        inverse([[0, 1, 0], [1, 1, 0], [0, 2, 1]]),
-        Some([[-1, 1, 0], [1, 0, 0], [-2, 0, 1]])
-    );
-    assert_eq!(rt; inverse([[1, 2, 3], [4, 5, 6], [7, 8, 10]]), None);
+    assert_eq!(rt; first_wrong_inverse(), INVERSES.len());
 }
 
-// The same matrices as in the table of integers, whose values are taken modulo 7.
+/// Whether the product, the transpose and the adjugate of residues are these.
+fn are_matrices_of_residues() -> bool {
+    residue_product(A, B) == A_TIMES_B.1
+        && residue_rows(matrix_of_residues(A).transpose()) == TRANSPOSE_OF_A.1
+        && residue_adjugate(A) == ADJUGATE_OF_A.1
+}
+
+// The same matrices as those of integers, whose values are taken modulo 7.
 #[test]
 fn matrices_of_residues(rt: HostRuntime) {
-    let a = [[1, 2, 3], [4, 5, 6], [7, 8, 10]];
-    let b = [[2, 0, -1], [1, 3, 0], [0, 1, 1]];
-    assert_eq!(rt; residue_product(a, b), [[4, 2, 2], [6, 0, 2], [1, 6, 3]]);
-    assert_eq!(rt; residue_image(a, [1, -1, 2]), [5, 4, 5]);
-    assert_eq!(rt;
-        residue_rows(matrix_of_residues(a).transpose()),
-        [[1, 4, 0], [2, 5, 1], [3, 6, 3]]
-    );
-    assert_eq!(rt; residue_determinant(a), 4);
-    assert_eq!(rt; residue_adjugate(a), [[2, 4, 4], [2, 3, 6], [4, 6, 4]]);
+    assert!(rt; are_matrices_of_residues());
+    assert!(rt; residue_image(A, V) == [5, 4, 5]);
+    assert_eq!(rt; residue_determinant(A), 4);
 }
 
 #[test]
 fn a_matrix_of_fractions(rt: HostRuntime) {
-    assert_eq!(rt;
-        calls_on_halves(),
-        Some([
-            [(1, 1), (3, 4), (0, 1)],
-            [(1, 1), (1, 4), (1, 1)],
-            [(1, 1), (0, 1), (0, 1)],
-            [(1, 1), (1, 2), (-1, 1)],
-            [(-1, 2), (1, 2), (0, 1)],
-            [(-1, 2), (-1, 1), (1, 2)],
-            [(1, 1), (-1, 1), (0, 1)],
-            [(1, 1), (2, 1), (-1, 1)],
-            [(3, 4), (1, 4), (-1, 1)],
-            [(-1, 2), (-1, 2), (-1, 2)],
-        ])
-    );
+    assert!(rt; calls_on_halves() == Some(ON_HALVES));
 }
