@@ -5,3 +5,4 @@ pub mod Positions
 pub mod Folding
 pub mod CellLemmas
 pub mod ImageLemmas
+mod KnownValues

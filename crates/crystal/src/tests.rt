@@ -1,3 +1,5 @@
+// Maps of small crystals, worked by hand, and that a cell is read back as it was made.
+
 ghost use Rattle.std.specs.Prelude.{◌≡◌, ◌*◌, ◌^◌, ◌<◌, ◌≤◌, IfOk, [], ◌∷◌};
 ghost use Rattle.ring.specs.Size.{AtMost};
 ghost use Rattle.crystal_spec.specs.Crystals.{IsPositive};
@@ -5,24 +7,76 @@ ghost use Rattle.crystal.specs.Views.{metric_of};
 ghost use Rattle.crystal.specs.Bounds.{EntriesAtMost, CoordinatesAtMost};
 
 use crate::{Atom, Cell, Metric, MomentKind, Name, Places, Sign, Steps};
+use crystal_spec::Sign::{Reversed, Same};
 use exact_num::Int;
 use matrix3::{Mat3, Vec3};
 use std::alloc::Global;
 use std::marker::Brand;
 use std::sync::ledger::{Blank, Ledger};
-use std::test::Fail;
 
-const IDENTITY: [[i8; 3]; 3] = [[1, 0, 0], [0, 1, 0], [0, 0, 1]];
+type Rows = [[i8; 3]; 3];
 
-const INVERSION: [[i8; 3]; 3] = [[-1, 0, 0], [0, -1, 0], [0, 0, -1]];
+const IDENTITY: Rows = [[1, 0, 0], [0, 1, 0], [0, 0, 1]];
 
-const QUARTER_TURN_ABOUT_C: [[i8; 3]; 3] = [[0, -1, 0], [1, 0, 0], [0, 0, 1]];
+const INVERSION: Rows = [[-1, 0, 0], [0, -1, 0], [0, 0, -1]];
 
-const HALF_TURN_ABOUT_A: [[i8; 3]; 3] = [[1, 0, 0], [0, -1, 0], [0, 0, -1]];
+const QUARTER_TURN_ABOUT_C: Rows = [[0, -1, 0], [1, 0, 0], [0, 0, 1]];
 
-const MIRROR_ACROSS_C: [[i8; 3]; 3] = [[1, 0, 0], [0, 1, 0], [0, 0, -1]];
+const HALF_TURN_ABOUT_A: Rows = [[1, 0, 0], [0, -1, 0], [0, 0, -1]];
 
-const SHEAR: [[i8; 3]; 3] = [[1, 1, 0], [0, 1, 0], [0, 0, 1]];
+const MIRROR_ACROSS_C: Rows = [[1, 0, 0], [0, 1, 0], [0, 0, -1]];
+
+const SHEAR: Rows = [[1, 1, 0], [0, 1, 0], [0, 0, 1]];
+
+/// An atom: its species, its position and its moment along c.
+struct Site(u16, [u32; 3], i8);
+
+/// The parts n of the axes, and the atom beside an atom Mn with moment 1 along c at the origin.
+struct Crystal(u32, Option<Site>);
+
+const ONE: Crystal = Crystal(1, None);
+
+const CENTRED: Crystal = Crystal(2, Some(Site(0, [1, 1, 1], 1)));
+
+const MIXED: Crystal = Crystal(2, Some(Site(1, [1, 1, 1], 1)));
+
+const OPPOSED: Crystal = Crystal(2, Some(Site(0, [0, 0, 1], -1)));
+
+const UNEQUAL: Crystal = Crystal(2, Some(Site(0, [0, 0, 1], -2)));
+
+const OF_TWO_SPECIES: Crystal = Crystal(4, Some(Site(1, [1, 2, 3], -5)));
+
+/// A crystal, a map, and whether the map keeps the crystal.
+struct Map(Crystal, Rows, [u32; 3], Sign, bool);
+
+#[rattlefmt::skip]
+const MAPS: &[Map] = &[
+    Map(ONE, IDENTITY, [0, 0, 0], Same, true),
+    Map(ONE, IDENTITY, [0, 0, 0], Reversed, false),
+    Map(ONE, INVERSION, [0, 0, 0], Same, true),
+    Map(ONE, QUARTER_TURN_ABOUT_C, [0, 0, 0], Same, true),
+    Map(ONE, HALF_TURN_ABOUT_A, [0, 0, 0], Same, false),
+    Map(ONE, HALF_TURN_ABOUT_A, [0, 0, 0], Reversed, true),
+    Map(ONE, MIRROR_ACROSS_C, [0, 0, 0], Same, true),
+    Map(ONE, SHEAR, [0, 0, 0], Same, false),
+    Map(CENTRED, IDENTITY, [1, 1, 1], Same, true),
+    Map(CENTRED, IDENTITY, [1, 0, 0], Same, false),
+    Map(MIXED, IDENTITY, [0, 0, 0], Same, true),
+    Map(MIXED, IDENTITY, [1, 1, 1], Same, false),
+    Map(OPPOSED, IDENTITY, [0, 0, 1], Same, false),
+    Map(OPPOSED, IDENTITY, [0, 0, 1], Reversed, true),
+    Map(OPPOSED, HALF_TURN_ABOUT_A, [0, 0, 1], Same, true),
+    Map(UNEQUAL, IDENTITY, [0, 0, 1], Reversed, false),
+];
+
+/// Whether moments are vectors, whether they are axial, and whether the inversion keeps a moment of the kind.
+#[rattlefmt::skip]
+const KINDS: &[(bool, bool, bool)] = &[
+    (true, true, true),
+    (true, false, false),
+    (false, true, false),
+    (false, false, true),
+];
 
 fn whole(value: i8) -> Int
     ensures value { result ≡ value }
@@ -31,10 +85,10 @@ fn whole(value: i8) -> Int
     Int::new(value as i128).unwrap()
 }
 
-fn matrix(rows: [[i8; 3]; 3]) -> Mat3<Int>
+fn matrix(rows: &Rows) -> Mat3<Int>
     ensures { EntriesAtMost 150000000 result }
 {
-    let [[a11, a12, a13], [a21, a22, a23], [a31, a32, a33]] = rows;
+    let [[a11, a12, a13], [a21, a22, a23], [a31, a32, a33]] = *rows;
     Mat3 {
         a11: whole(a11),
         a12: whole(a12),
@@ -83,52 +137,60 @@ fn axes() -> Metric
 }
 
 /// Adds an atom of a species that has a name, at a free position within the cell.
-fn put(alloc: Global, cell: &mut Cell, atom: Atom) -> Result<(), Fail>
+fn put(alloc: Global, cell: &mut Cell, atom: Atom) -> Option<()>
     requires { CoordinatesAtMost (2 * 10 ^ 27) atom.moment }
 {
     let n = cell.n();
     let [x, y, z] = atom.place;
     if x >= n || y >= n || z >= n {
-        return Err(Fail::new("the position is outside the cell"));
+        return None;
     }
-    if atom.species as usize >= cell.names() || cell.count() >= 512 {
-        return Err(Fail::new("the species has no name, or the cell is full"));
+    if atom.species as usize >= cell.names() || cell.count() >= 512 || !cell.kind().vector {
+        return None;
     }
-    if !cell.kind().vector {
-        return Err(Fail::new("the moments are scalars"));
-    }
-    let index = cell.index(alloc)?;
+    let index = cell.index(alloc).ok()?;
     if cell.occupant(&index, atom.place).is_some() {
-        return Err(Fail::new("an atom is there"));
+        return None;
     }
-    Ok(cell.add(atom)?)
+    cell.add(atom).ok()
 }
 
 /// A cell with the species Mn and O, and an atom Mn with moment 1 along c at the origin.
-fn one_atom(alloc: Global, n: u32) -> Result<Cell, Fail>
+fn one_atom(alloc: Global, n: u32) -> Option<Cell>
     requires at_least { 1 ≤ n }
     requires at_most { n ≤ 10 ^ 6 }
 {
-    let manganese = Name::new(b"Mn").ok_or("Mn is no name")?;
-    let oxygen = Name::new(b"O").ok_or("O is no name")?;
+    let manganese = Name::new(b"Mn")?;
     let first = atom(0, [0, 0, 0], 1);
     let kind = MomentKind {
         vector: true,
         axial: true,
     };
-    let mut cell = Cell::build(alloc, whole(1), axes(), n, 1, kind, manganese, first)?;
-    cell.add_name(oxygen)?;
-    Ok(cell)
+    let mut cell = Cell::build(alloc, whole(1), axes(), n, 1, kind, manganese, first).ok()?;
+    cell.add_name(Name::new(b"O")?).ok()?;
+    Some(cell)
 }
 
-/// The same with a further atom.
-fn two_atoms(alloc: Global, n: u32, species: u16, place: [u32; 3], moment: i8) -> Result<Cell, Fail>
-    requires at_least { 1 ≤ n }
-    requires at_most { n ≤ 10 ^ 6 }
+/// The atom of a row.
+fn atom_of(site: &Site) -> Atom
+    ensures { CoordinatesAtMost (2 * 10 ^ 27) result.moment }
 {
-    let mut cell = one_atom(alloc, n)?;
-    put(alloc, &mut cell, atom(species, place, moment))?;
-    Ok(cell)
+    let Site(species, place, moment) = site;
+    let place = *place;
+    atom(*species, place, *moment)
+}
+
+/// The cell of the crystal.
+fn cell_of(alloc: Global, crystal: &Crystal) -> Option<Cell> {
+    let Crystal(n, second) = crystal;
+    if *n < 1 || *n > 1_000_000 {
+        return None;
+    }
+    let mut cell = one_atom(alloc, *n)?;
+    if let Some(site) = second {
+        put(alloc, &mut cell, atom_of(site))?;
+    }
+    Some(cell)
 }
 
 /// Whether the map keeps the crystal of the cell, over a new counter of steps.
@@ -136,10 +198,10 @@ fn keeps<L: Ledger>(
     alloc: Global,
     blank: Blank,
     cell: &Cell,
-    rows: [[i8; 3]; 3],
+    rows: &Rows,
     shift: [u32; 3],
     sign: Sign,
-) -> Result<bool, Fail>
+) -> Option<bool>
     requires name { blank.name ≡ L.name }
     requires parts { blank.parts ≡ L.parts }
     requires some { 0 < L.parts }
@@ -147,50 +209,46 @@ fn keeps<L: Ledger>(
     let n = cell.n();
     let [x, y, z] = shift;
     if x >= n || y >= n || z >= n {
-        return Err(Fail::new("the translation part is outside the cell"));
+        return None;
     }
-    let places = Places::new(alloc, cell)?;
+    let places = Places::new(alloc, cell).ok()?;
     let mut steps = Steps::<L>::new(blank);
-    Ok(places.keeps_map(&matrix(rows), shift, sign, &mut steps))
+    Some(places.keeps_map(&matrix(rows), shift, sign, &mut steps))
+}
+
+/// Whether the map keeps the crystal of the cell.
+fn is_kept(alloc: Global, cell: &Cell, rows: &Rows, shift: [u32; 3], sign: Sign) -> Option<bool> {
+    let blank = Blank::new(1);
+    keeps::<Brand>(alloc, blank, cell, rows, shift, sign)
+}
+
+/// Whether the map does to the crystal what the row says.
+fn holds(alloc: Global, map: &Map) -> bool {
+    let Map(crystal, rows, shift, sign, kept) = map;
+    match cell_of(alloc, crystal) {
+        Some(cell) => is_kept(alloc, &cell, rows, *shift, *sign) == Some(*kept),
+        None => false,
+    }
+}
+
+/// The number of the first map that does something else; else how many there are.
+fn first_wrong_map(alloc: Global) -> usize {
+    for i in 0..MAPS.len() {
+        if !holds(alloc, &MAPS[i]) {
+            return i;
+        }
+    }
+    MAPS.len()
 }
 
 #[test]
-fn maps_keep_the_crystal_or_not(rt: HostRuntime) -> Result<(), Fail> {
-    let one = one_atom(rt.alloc(), 1)?;
-    let centred = two_atoms(rt.alloc(), 2, 0, [1, 1, 1], 1)?;
-    let mixed = two_atoms(rt.alloc(), 2, 1, [1, 1, 1], 1)?;
-    let opposed = two_atoms(rt.alloc(), 2, 0, [0, 0, 1], -1)?;
-    let unequal = two_atoms(rt.alloc(), 2, 0, [0, 0, 1], -2)?;
-    for (i, (cell, rows, shift, sign, kept)) in [
-        (&one, IDENTITY, [0, 0, 0], Sign::Same, true),
-        (&one, IDENTITY, [0, 0, 0], Sign::Reversed, false),
-        (&one, INVERSION, [0, 0, 0], Sign::Same, true),
-        (&one, QUARTER_TURN_ABOUT_C, [0, 0, 0], Sign::Same, true),
-        (&one, HALF_TURN_ABOUT_A, [0, 0, 0], Sign::Same, false),
-        (&one, HALF_TURN_ABOUT_A, [0, 0, 0], Sign::Reversed, true),
-        (&one, MIRROR_ACROSS_C, [0, 0, 0], Sign::Same, true),
-        (&one, SHEAR, [0, 0, 0], Sign::Same, false),
-        (&centred, IDENTITY, [1, 1, 1], Sign::Same, true),
-        (&centred, IDENTITY, [1, 0, 0], Sign::Same, false),
-        (&mixed, IDENTITY, [0, 0, 0], Sign::Same, true),
-        (&mixed, IDENTITY, [1, 1, 1], Sign::Same, false),
-        (&opposed, IDENTITY, [0, 0, 1], Sign::Same, false),
-        (&opposed, IDENTITY, [0, 0, 1], Sign::Reversed, true),
-        (&opposed, HALF_TURN_ABOUT_A, [0, 0, 1], Sign::Same, true),
-        (&unequal, IDENTITY, [0, 0, 1], Sign::Reversed, false),
-    ]
-    .iter()
-    .enumerate()
-    {
-        let found = keeps::<Brand>(rt.alloc(), Blank::new(1), *cell, *rows, *shift, *sign)?;
-        assert_eq!(rt; found, *kept, "map {i}");
-    }
-    Ok(())
+fn maps_keep_the_crystal_or_not(rt: HostRuntime) {
+    assert_eq!(rt; first_wrong_map(rt.alloc()), MAPS.len());
 }
 
 /// A cell of one atom at the origin, whose moment is 1 along a, or the scalar 1.
-fn one_of_kind(alloc: Global, kind: MomentKind) -> Result<Cell, Fail> {
-    let name = Name::new(b"Mn").ok_or("Mn is no name")?;
+fn one_of_kind(alloc: Global, kind: MomentKind) -> Option<Cell> {
+    let name = Name::new(b"Mn")?;
     let moment = Vec3 {
         x: whole(1),
         y: whole(0),
@@ -201,71 +259,93 @@ fn one_of_kind(alloc: Global, kind: MomentKind) -> Result<Cell, Fail> {
         place: [0, 0, 0],
         moment,
     };
-    Ok(Cell::build(alloc, whole(1), axes(), 1, 1, kind, name, first)?)
+    Cell::build(alloc, whole(1), axes(), 1, 1, kind, name, first).ok()
 }
 
-#[test]
-fn the_inversion_turns_moments_by_their_kind(rt: HostRuntime) -> Result<(), Fail> {
-    for (vector, axial, kept) in [
-        (true, true, true),
-        (true, false, false),
-        (false, true, false),
-        (false, false, true),
-    ] {
-        let kind = MomentKind { vector, axial };
-        let cell = one_of_kind(rt.alloc(), kind)?;
-        let same = keeps::<Brand>(
-            rt.alloc(),
-            Blank::new(1),
-            &cell,
-            INVERSION,
-            [0, 0, 0],
-            Sign::Same,
-        )?;
-        assert_eq!(rt; (cell.kind(), same), (kind, kept));
+/// Whether the inversion keeps the moment of a cell of this kind, and the cell tells its kind.
+fn is_inverted(alloc: Global, kind: MomentKind, kept: bool) -> bool {
+    match one_of_kind(alloc, kind) {
+        Some(cell) => {
+            cell.kind() == kind && is_kept(alloc, &cell, &INVERSION, [0, 0, 0], Same) == Some(kept)
+        }
+        None => false,
     }
-    Ok(())
 }
 
-#[test]
-fn a_cell_is_read_back(rt: HostRuntime) -> Result<(), Fail> {
-    let cell = two_atoms(rt.alloc(), 4, 1, [1, 2, 3], -5)?;
-    assert_eq!(rt; cell.scale().get(), 1);
-    assert_eq!(rt; *cell.metric(), axes());
-    assert_eq!(rt; (cell.n(), cell.k()), (4, 1));
-    assert_eq!(rt; (cell.names(), cell.count()), (2, 2));
-    assert!(rt; cell.names() > 1 && cell.count() > 1);
-    let second = cell.atom(1);
-    assert_eq!(rt;
-        (second.species, second.place, second.moment.z.get()),
-        (1, [1, 2, 3], -5)
-    );
-    let oxygen = cell.name(1);
-    assert_eq!(rt; oxygen.count(), 1);
-    assert!(rt; oxygen.count() > 0);
-    assert_eq!(rt; oxygen.byte(0), b'O');
-    let index = cell.index(rt.alloc())?;
-    assert_eq!(rt; index.proposal([0, 0, 0]), Some(0));
-    assert_eq!(rt; index.proposal([1, 2, 3]), Some(1));
-    let places = Places::new(rt.alloc(), &cell)?;
-    let same = places.cell();
-    assert!(rt; same.n() == 4);
-    assert_eq!(rt; places.occupant([1, 2, 3]), Some(1));
-    assert_eq!(rt; places.occupant([3, 2, 1]), None);
-    Ok(())
-}
-
-#[test]
-fn names_have_one_to_eight_letters_digits_or_underlines(rt: HostRuntime) {
-    for (bytes, is_name) in [
-        (b"M".as_slice(), true),
-        (b"Mn_2plus", true),
-        (b"Mn_2plus3", false),
-        (b"2Mn", false),
-        (b"_Mn", false),
-        (b"Mn+", false),
-        (b"", false),
-    ] {
-        assert_eq!(rt; Name::new(bytes).is_some(), is_name);
+/// The number of the first kind to whose moments the inversion does something else; else how many there are.
+fn first_wrong_kind(alloc: Global) -> usize {
+    for i in 0..KINDS.len() {
+        let (vector, axial, kept) = KINDS[i];
+        if !is_inverted(alloc, MomentKind { vector, axial }, kept) {
+            return i;
+        }
     }
+    KINDS.len()
+}
+
+#[test]
+fn the_inversion_turns_moments_by_their_kind(rt: HostRuntime) {
+    assert_eq!(rt; first_wrong_kind(rt.alloc()), KINDS.len());
+}
+
+/// Whether the cell has the units that it was made with, two names and two atoms.
+fn has_its_units(cell: &Cell) -> bool {
+    cell.scale().get() == 1
+        && *cell.metric() == axes()
+        && cell.n() == 4
+        && cell.k() == 1
+        && cell.names() == 2
+        && cell.count() == 2
+}
+
+/// Whether the second atom is that of the crystal.
+fn has_its_second_atom(cell: &Cell) -> bool {
+    if cell.count() < 2 {
+        return false;
+    }
+    let second = *cell.atom(1);
+    second.species == 1 && second.place == [1, 2, 3] && second.moment.z.get() == -5
+}
+
+/// Whether the second name is that of oxygen.
+fn has_its_second_name(cell: &Cell) -> bool {
+    if cell.names() < 2 {
+        return false;
+    }
+    let name = cell.name(1);
+    name.count() == 1 && name.byte(0) == b'O'
+}
+
+/// Whether the index proposes each of the two atoms at its position; `None` for want of memory.
+fn are_proposed(alloc: Global, cell: &Cell) -> Option<bool> {
+    let index = cell.index(alloc).ok()?;
+    Some(index.proposal([0, 0, 0]) == Some(0) && index.proposal([1, 2, 3]) == Some(1))
+}
+
+/// Whether the second atom is found at its position and none at another; `None` for want of memory.
+fn are_found(alloc: Global, cell: &Cell) -> Option<bool> {
+    let places = Places::new(alloc, cell).ok()?;
+    if places.cell().n() != 4 {
+        return None;
+    }
+    Some(places.occupant([1, 2, 3]) == Some(1) && places.occupant([3, 2, 1]).is_none())
+}
+
+/// Whether the cell of two species is read back as it was made.
+fn is_read_back(alloc: Global) -> bool {
+    match cell_of(alloc, &OF_TWO_SPECIES) {
+        Some(cell) => {
+            has_its_units(&cell)
+                && has_its_second_atom(&cell)
+                && has_its_second_name(&cell)
+                && are_proposed(alloc, &cell) == Some(true)
+                && are_found(alloc, &cell) == Some(true)
+        }
+        None => false,
+    }
+}
+
+#[test]
+fn a_cell_is_read_back(rt: HostRuntime) {
+    assert!(rt; is_read_back(rt.alloc()));
 }
