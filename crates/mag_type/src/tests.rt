@@ -1,3 +1,5 @@
+// Groups of two operations, classified by hand.
+
 ghost use Rattle.std.specs.Prelude.{◌≡◌, ◌≢◌, ◌≤◌, ◌^◌, IsTrue};
 ghost use Rattle.ring.specs.Size.{AtMost};
 ghost use Rattle.matrix3.specs.Matrices.{EachEntry};
@@ -10,11 +12,34 @@ ghost use Rattle.op_group.specs.Composition.{identity_operation, IsComposed};
 use crate::classification::identity;
 use crate::{Kind, classify};
 use crystal_spec::Sign;
+use crystal_spec::Sign::{Reversed, Same};
 use exact_num::Int;
 use matrix3::Mat3;
 use op_group::{Op, OpList, compare, compose};
-use std::alloc::Global;
-use std::test::Fail;
+use std::alloc::{AllocError, Global};
+
+/// An operation: the diagonal of its matrix, its translation part in units of 1/n, and its time sign.
+struct Given(u32, [i8; 3], [u32; 3], Sign);
+
+const UNIT: [i8; 3] = [1, 1, 1];
+
+const INVERSION: [i8; 3] = [-1, -1, -1];
+
+const HALF_TURN: [i8; 3] = [-1, -1, 1];
+
+/// The operation beside the identity; the type, the order of the family group, and that of the maximal space subgroup.
+struct Group(Given, u8, u64, u64);
+
+#[rattlefmt::skip]
+const GROUPS: &[Group] = &[
+    Group(Given(1, INVERSION, [0, 0, 0], Same), 1, 2, 2),
+    Group(Given(1, UNIT, [0, 0, 0], Reversed), 2, 1, 1),
+    Group(Given(1, INVERSION, [0, 0, 0], Reversed), 3, 2, 1),
+    Group(Given(4, INVERSION, [1, 2, 3], Reversed), 3, 2, 1),
+    Group(Given(1, HALF_TURN, [0, 0, 0], Same), 1, 2, 2),
+    Group(Given(2, UNIT, [0, 0, 1], Reversed), 4, 2, 1),
+    Group(Given(6, UNIT, [3, 3, 0], Reversed), 4, 2, 1),
+];
 
 fn whole(value: i8) -> Int
     ensures { AtMost 128 result }
@@ -77,8 +102,8 @@ fn is_no_pure_translation(op: &Op) -> bool
     op.sign == Sign::Reversed || op.w != identity()
 }
 
-/// The group of the identity and an operation that undoes itself, classified.
-fn kind_of_two(alloc: Global, n: u32, op: Op) -> Result<Kind, Fail>
+/// The group of the identity and an operation that undoes itself, classified; `None` where it is no such operation.
+fn kind_of_two(alloc: Global, n: u32, op: Op) -> Result<Option<Kind>, AllocError>
     requires size { EachEntry (AtMost 128) op.w }
 {
     if 1 <= n
@@ -90,37 +115,34 @@ fn kind_of_two(alloc: Global, n: u32, op: Op) -> Result<Kind, Fail>
         let mut list = OpList::new(alloc, n);
         list.insert(nothing())?;
         list.insert(op)?;
-        Ok(classify(&list))
+        Ok(Some(classify(&list)))
     } else {
-        Err(Fail::new("the two operations are no such group"))
+        Ok(None)
     }
 }
 
-#[test]
-fn groups_of_two_operations_have_each_type(rt: HostRuntime) -> Result<(), Fail> {
-    let unit = [1, 1, 1];
-    let inversion = [-1, -1, -1];
-    let half_turn = [-1, -1, 1];
-    let o = [0, 0, 0];
-    for (i, (n, diagonal, shift, sign, kind, family, unprimed)) in [
-        (1, inversion, o, Sign::Same, 1, 2, 2),
-        (1, unit, o, Sign::Reversed, 2, 1, 1),
-        (1, inversion, o, Sign::Reversed, 3, 2, 1),
-        (4, inversion, [1, 2, 3], Sign::Reversed, 3, 2, 1),
-        (1, half_turn, o, Sign::Same, 1, 2, 2),
-        (2, unit, [0, 0, 1], Sign::Reversed, 4, 2, 1),
-        (6, unit, [3, 3, 0], Sign::Reversed, 4, 2, 1),
-    ]
-    .iter()
-    .enumerate()
-    {
-        let found = kind_of_two(rt.alloc(), *n, operation(*diagonal, *shift, *sign))?;
-        let expected = Kind {
-            kind: *kind,
-            family: *family,
-            unprimed: *unprimed,
-        };
-        assert!(rt; found == expected, "group {i}");
+/// Whether the group is classified as the row says.
+fn is_of_its_type(alloc: Global, group: &Group) -> bool {
+    let Group(Given(n, diagonal, shift, sign), kind, family, unprimed) = group;
+    let expected = Kind {
+        kind: *kind,
+        family: *family,
+        unprimed: *unprimed,
+    };
+    kind_of_two(alloc, *n, operation(*diagonal, *shift, *sign)) == Ok(Some(expected))
+}
+
+/// The number of the first group that is classified otherwise; else how many there are.
+fn first_wrong(alloc: Global) -> usize {
+    for i in 0..GROUPS.len() {
+        if !is_of_its_type(alloc, &GROUPS[i]) {
+            return i;
+        }
     }
-    Ok(())
+    GROUPS.len()
+}
+
+#[test]
+fn groups_of_two_operations_have_each_type(rt: HostRuntime) {
+    assert_eq!(rt; first_wrong(rt.alloc()), GROUPS.len());
 }
