@@ -150,12 +150,8 @@ fn dataset_value(
     requires firsts { AreFirstsBelow orbits.now }
     ensures { IfOk result (λ value. view value ≡ dataset prim.now.index prim.now.back prim.now.cell list.now cell_order kind.now orbits.now) }
 {
-    let back = entries_words(alloc, prim.back())?;
-    let metric = metric_words(alloc, prim.cell())?;
-    let operations = operation_values(alloc, list)?;
-    let first_atoms = orbit_values(alloc, orbits, atoms)?;
-    let sites = site_values(alloc, orbits, atoms)?;
     let mut members = Map::new(alloc);
+    let back = entries_words(alloc, prim.back())?;
     put(&mut members, alloc, "back", Value::from(back))?;
     put(&mut members, alloc, "cell_order", Value::from(cell_order))?;
     put(
@@ -165,10 +161,14 @@ fn dataset_value(
         Value::from(kind.family),
     )?;
     put(&mut members, alloc, "index", Value::from(prim.index()))?;
+    let metric = metric_words(alloc, prim.cell())?;
     put(&mut members, alloc, "metric", Value::from(metric))?;
+    let operations = operation_values(alloc, list)?;
     put(&mut members, alloc, "operations", Value::from(operations))?;
+    let first_atoms = orbit_values(alloc, orbits, atoms)?;
     put(&mut members, alloc, "orbits", Value::from(first_atoms))?;
     put(&mut members, alloc, "order", Value::from(list.count()))?;
+    let sites = site_values(alloc, orbits, atoms)?;
     put(&mut members, alloc, "sites", Value::from(sites))?;
     put(&mut members, alloc, "type", Value::from(kind.kind))?;
     put(
