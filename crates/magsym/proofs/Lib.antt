@@ -6,4 +6,5 @@ mod OptionOrder
 pub mod SpelledSizes
 pub mod Listed
 pub mod OneReport
+pub mod FoundLemmas
 mod KnownValues

@@ -4,3 +4,4 @@ pub mod Telling
 pub mod Outcomes
 pub mod Completeness
 pub mod Spelled
+pub mod Findings
