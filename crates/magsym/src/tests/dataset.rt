@@ -77,6 +77,18 @@ const OF_EACH_TYPE: &[Row] = &[
     ),
 ];
 
+/// Moments along a and along c in a cell that is doubled along a: all operations of the primitive cell are operations of the
+/// cell, or half of them, and each of these comes with two translations.
+#[rattlefmt::skip]
+const DOUBLED_ALONG_A: &[Row] = &[
+    Row("dataset", b"magcell 1\nmetric 4 1 1 0 0 0\natom A 0 0 0 1 0 0\natom A 1/2 0 0 1 0 0\nend\n",
+        Parts(1, b"{\"back\":\"2 0 0 0 1 0 0 0 1\",\"cell_order\":32,\"family_order\":16,\"index\":2,\"metric\":\"1 1 1 0 0 0\",",
+            b"", b"],\"orbits\":[1,1],\"order\":16,\"sites\":[16,16],\"type\":3,\"unprimed_order\":8}\n")),
+    Row("dataset", b"magcell 1\nmetric 4 1 1 0 0 0\natom A 0 0 0 0 0 1\natom A 1/2 0 0 0 0 1\nend\n",
+        Parts(1, b"{\"back\":\"2 0 0 0 1 0 0 0 1\",\"cell_order\":16,\"family_order\":16,\"index\":2,\"metric\":\"1 1 1 0 0 0\",",
+            b"", b"],\"orbits\":[1,1],\"order\":16,\"sites\":[16,16],\"type\":3,\"unprimed_order\":8}\n")),
+];
+
 /// Refused as for the other commands.
 #[rattlefmt::skip]
 const REFUSED: &[Row] = &[
@@ -87,6 +99,14 @@ const REFUSED: &[Row] = &[
 #[test]
 fn crystals_of_each_type(rt: HostRuntime) {
     assert_eq!(rt; first_wrong(rt.alloc(), OF_EACH_TYPE), OF_EACH_TYPE.len());
+}
+
+#[test]
+fn operations_come_back_to_the_cell_with_its_translations(rt: HostRuntime) {
+    assert_eq!(rt;
+        first_wrong(rt.alloc(), DOUBLED_ALONG_A),
+        DOUBLED_ALONG_A.len()
+    );
 }
 
 #[test]

@@ -36,6 +36,25 @@ const CHAIN: &[u8] =
 /// A cell of twice the length of the primitive one.
 const DOUBLED: &[u8] = b"magcell 1\nmetric 4 1 1 0 0 0\natom A 0 0 0\natom A 1/2 0 0\nend\n";
 
+/// A cell of this length with equal moments in the plane of a and c.
+const EQUAL: &[u8] =
+    b"magcell 1\nmetric 4 1 1 0 0 0\natom A 0 0 0 1 0 3\natom A 1/2 0 0 1 0 3\nend\n";
+
+/// A cell of this length with opposite moments.
+const OPPOSITE: &[u8] =
+    b"magcell 1\nmetric 4 1 1 0 0 0\natom A 0 0 0 1 0 3\natom A 1/2 0 0 -1 0 -3\nend\n";
+
+/// A body-centred cubic crystal without moments.
+const BODY_CENTRED: &[u8] =
+    b"magcell 1\nmetric 1 1 1 0 0 0\natom A 0 0 0\natom A 1/2 1/2 1/2\nend\n";
+
+/// A body-centred cubic crystal with opposite moments along c.
+const ALTERNATING: &[u8] =
+    b"magcell 1\nmetric 1 1 1 0 0 0\natom A 0 0 0 0 0 1\natom A 1/2 1/2 1/2 0 0 -1\nend\n";
+
+/// A hexagonal crystal without moments.
+const HEXAGONAL: &[u8] = b"magcell 1\nmetric 2 2 5 0 0 -1\natom A 0 0 0\nend\n";
+
 /// A moment in no special direction.
 const TILTED: &[u8] = b"magcell 1\nmetric 4 5 6 1 1 1\natom X 0 0 0 1 2 3\nend\n";
 

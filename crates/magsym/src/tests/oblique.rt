@@ -1,11 +1,11 @@
 // The command `symmetry` on cells with axes at any angles: skew, flat, hexagonal and centred ones.
 use super::Ends::{Parts, Whole};
-use super::{CENTRED, Row, TILTED, first_wrong};
+use super::{CENTRED, HEXAGONAL, Row, TILTED, first_wrong};
 
 /// A hexagonal cell, skew ones, a long one; a moment that leaves the inversion alone; a cell with a centred face.
 #[rattlefmt::skip]
 const CELLS: &[Row] = &[
-    Row("symmetry", b"magcell 1\nmetric 2 2 5 0 0 -1\natom A 0 0 0\nend\n",
+    Row("symmetry", HEXAGONAL,
         Parts(48, b"-x,-x+y,-z,+1\n-x,-x+y,-z,-1\n", b"\n-y,x-y,z,-1\n", b"")),
     Row("symmetry", b"magcell 1\nmetric 1 51 1 0 0 7\natom A 0 0 0\nend\n",
         Parts(32, b"-x-14y,y,-z,+1\n", b"\n-x,-y,-z,-1\n", b"")),

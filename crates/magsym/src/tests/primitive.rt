@@ -1,6 +1,8 @@
 // The command `primitive`: the text of the primitive cell, and Q.
 use super::Ends::{Parts, Whole, WriteFails};
-use super::{CHAIN, DOUBLED, NONMAGNETIC, Row, first_wrong, status_of};
+use super::{
+    BODY_CENTRED, CHAIN, DOUBLED, EQUAL, NONMAGNETIC, OPPOSITE, Row, first_wrong, status_of,
+};
 use crate::status::{Kept, Status};
 use std::alloc::Global;
 
@@ -22,8 +24,23 @@ const REDUCED: &[Row] = &[
         Parts(6, b"magcell 1\n# index 1\n# back ", b"", b"\nmetric 4 4 6 0 -1 0\natom A 0 0 0\nend\n")),
     Row("primitive", b"magcell 1\nmetric 1 50 1 0 0 7\natom A 0 0 0\nend\n",
         Parts(6, b"magcell 1\n# index 1\n# back ", b"", b"\nmetric 1 1 1 0 0 0\natom A 0 0 0\nend\n")),
-    Row("primitive", b"magcell 1\nmetric 1 1 1 0 0 0\natom A 0 0 0\natom A 1/2 1/2 1/2\nend\n",
+    Row("primitive", BODY_CENTRED,
         Parts(6, b"magcell 1\n# index 2\n# back ", b"", b"\nmetric 3/4 3/4 3/4 -1/4 -1/4 -1/4\natom A 0 0 0\nend\n")),
+];
+
+/// Cells with a long axis a: with equal moments half of the cell is primitive, with opposite ones all of it, with c along a.
+#[rattlefmt::skip]
+const LONG: &[Row] = &[
+    Row("primitive", EQUAL,
+        Whole(b"magcell 1\n# index 2\n# back 2 0 0 0 1 0 0 0 1\nmetric 1 1 1 0 0 0\natom A 0 0 0 2 0 3\nend\n")),
+    Row("primitive", OPPOSITE,
+        Whole(b"magcell 1\n# index 1\n# back 0 1 0 0 0 1 1 0 0\nmetric 1 1 4 0 0 0\natom A 0 0 0 0 3 1\n\
+atom A 0 0 1/2 0 -3 -1\nend\n")),
+    Row("primitive", b"magcell 1\nmetric 4 1 1 0 0 0\natom A 0 0 0 0 0 1\natom A 1/2 0 0 0 0 1\nend\n",
+        Whole(b"magcell 1\n# index 2\n# back 2 0 0 0 1 0 0 0 1\nmetric 1 1 1 0 0 0\natom A 0 0 0 0 0 1\nend\n")),
+    Row("primitive", b"magcell 1\nmetric 4 1 1 0 0 0\natom A 0 0 0 0 0 1\natom A 1/2 0 0 0 0 -1\nend\n",
+        Whole(b"magcell 1\n# index 1\n# back 0 1 0 0 0 1 1 0 0\nmetric 1 1 4 0 0 0\natom A 0 0 0 0 1 0\n\
+atom A 0 0 1/2 0 -1 0\nend\n")),
 ];
 
 /// The entries of Q, row by row, where the status keeps it.
@@ -64,6 +81,11 @@ fn a_primitive_cell_along_the_axes(rt: HostRuntime) {
 #[test]
 fn reports_have_the_index_and_the_reduced_cell(rt: HostRuntime) {
     assert_eq!(rt; first_wrong(rt.alloc(), REDUCED), REDUCED.len());
+}
+
+#[test]
+fn moments_turn_with_the_basis(rt: HostRuntime) {
+    assert_eq!(rt; first_wrong(rt.alloc(), LONG), LONG.len());
 }
 
 #[test]
