@@ -9,10 +9,6 @@
 mod carried;
 mod full;
 mod rarest;
-#[cfg(test)]
-mod tests;
-#[cfg(test)]
-mod tests_carried;
 
 pub use carried::in_cell;
 pub use full::full_group;

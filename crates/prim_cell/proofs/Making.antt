@@ -1,6 +1,6 @@
 -- A cell that is made name after name and atom after atom.
 use Rattle.std.proofs.Common.{◌≡◌, ℕ, zero, suc, ◌+◌, ◌<◌, ◌≤◌, List, [], ◌∷◌, ◌++◌, length, map, take, refl, sym, ap, subst, ◌∙◌, inl, inr, add-one, arith}
-use Rattle.std.specs.Prelude.{ℤ, pos, ◌≤ℤ◌, ◌⊎◌, ◌*◌, ◌^◌, ◌*ℤ◌, slice_get, slice_index, slice_set, Some}
+use Rattle.std.specs.Prelude.{ℤ, ◌*◌, ◌^◌, ◌*ℤ◌, slice_get, slice_index, slice_set, Some}
 use Rattle.std.proofs.lemmas.List.{length-map}
 use Rattle.crystal_spec.specs.Increasing.{IsMember, IsDistinct}
 use Rattle.crystal_spec.specs.declared.MomentKind.{MomentKind}
@@ -9,13 +9,12 @@ use Rattle.crystal_spec.specs.Moments.{IsOfKind}
 use Rattle.crystal_spec.specs.Crystals.{Site, Structure}
 use Rattle.crystal_spec.specs.Operations.{IsWithinCell}
 use Rattle.crystal_spec.proofs.Moments.{turn-of_kind}
-use Rattle.crystal.specs.Bounds.{EntriesAtMost, CoordinatesAtMost}
+use Rattle.crystal.specs.Bounds.{CoordinatesAtMost}
 use Rattle.crystal.specs.Cells.{IsCell, IsSiteOf}
 use Rattle.basis_spec.specs.Metrics.{metric_in}
 use Rattle.basis_spec.specs.Bases.{cell_in_basis, first_at_each_position, site_in_basis}
 use Rattle.basis_spec.proofs.Residues.{residue_within}
 use Rattle.basis_spec.proofs.PrimitiveAtoms.{firsts_length}
-use Rattle.prim_cell.specs.Sizes.{HasSizesOfRead}
 use Rattle.prim_cell.specs.Rebasing.{with_atoms, started}
 use Rattle.prim_cell.proofs.Moving.{some_cells}
 
@@ -116,30 +115,3 @@ pub length-slice_set : (xs : List ℕ) (i b : ℕ) → length (slice_set xs i b)
 length-slice_set [] i b = refl
 length-slice_set (x ∷ xs) zero b = refl
 length-slice_set (x ∷ xs) (suc i) b = ap suc (length-slice_set xs i b)
-
-member_more : {X : Type 0} (x y : X) (xs : List X) → IsMember y (xs ++ x ∷ []) → IsMember y xs ⊎ (y ≡ x)
-member_more x y [] (inl e) = inr e
-member_more x y [] (inr m) = absurd m
-member_more x y (z ∷ zs) (inl e) = inl (inl e)
-member_more x y (z ∷ zs) (inr m) = by (member_more x y zs m)
-  where
-    by : IsMember y zs ⊎ (y ≡ x) → ((y ≡ z) ⊎ IsMember y zs) ⊎ (y ≡ x)
-    by (inl k) = inl (inr k)
-    by (inr e) = inr e
-
--- one atom more in a cell that has the sizes of one that was read
-pub sizes_more : (c : Structure) (x : Site) → HasSizesOfRead c → CoordinatesAtMost (10 ^ 9) x.moment → HasSizesOfRead (record c { sites = c.sites ++ x ∷ [] })
-sizes_more c x h k = record { scale = h.scale; metric = h.metric; moments = λ a m. by a (member_more x a c.sites m); names = h.names }
-  where
-    by : (a : Site) → IsMember a c.sites ⊎ (a ≡ x) → CoordinatesAtMost (10 ^ 9) a.moment
-    by a (inl m) = h.moments a m
-    by a (inr e) = subst (λ (y : Site). CoordinatesAtMost (10 ^ 9) y.moment) (sym e) k
-
--- a cell of one atom
-pub sizes_of_one : (c : Structure) (name : List ℕ) (s : ℤ) (g : Matrix) (n k : ℕ) (kind : MomentKind) (a : Site) → ◌≡◌ {A = Structure} c (record { names = name ∷ []; scale = s; metric = g; n = n; k = k; kind = kind; sites = a ∷ [] }) →
-    s ≤ℤ pos (10 ^ 9) → EntriesAtMost (10 ^ 9) g → CoordinatesAtMost (10 ^ 9) a.moment → HasSizesOfRead c
-sizes_of_one c name s g n k kind a e h m v = subst HasSizesOfRead (sym e) (record { scale = h; metric = m; moments = by; names = omega arith })
-  where
-    by : (b : Site) → IsMember b (a ∷ []) → CoordinatesAtMost (10 ^ 9) b.moment
-    by b (inl same) = subst (λ (y : Site). CoordinatesAtMost (10 ^ 9) y.moment) (sym same) v
-    by b (inr none) = absurd none

@@ -10,8 +10,6 @@ mod names;
 mod primitive_cell;
 mod rebased;
 mod reduced;
-#[cfg(test)]
-mod tests;
 mod translation;
 
 pub use primitive_cell::Primitive;

@@ -86,7 +86,7 @@ fn is_at(atom: &Atom, place: [u32; 3]) -> bool
 }
 
 /// Whether no atom of the cell is at this position.
-pub(crate) fn is_free(cell: &Cell, place: [u32; 3]) -> bool
+fn is_free(cell: &Cell, place: [u32; 3]) -> bool
     ensures { IsTrue result ↔ NoneAt (triple_of place) cell.now.sites }
 {
     for i in 0..cell.count() {

@@ -20,8 +20,3 @@ pub use operations::ops_report;
 pub use orbit_lines::orbit_report;
 pub use pages::pages_resume;
 pub use primitives::prim_report;
-
-#[cfg(test)]
-mod cell_tests;
-#[cfg(test)]
-mod tests;

@@ -10,8 +10,6 @@ mod atom_orbits;
 mod equivalent;
 mod images;
 mod position;
-#[cfg(test)]
-mod tests;
 
 pub use atom_orbits::Orbits;
 pub use equivalent::orbits;
