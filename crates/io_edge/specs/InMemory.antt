@@ -28,14 +28,15 @@ FailsNext plan = Contains plan.fails (plan.made + 1)
 abbrev pub after_call : CallPlan → CallPlan
 after_call plan = record { fails = plan.fails; made = min (plan.made + 1) (2 ^ 64 - 1) }
 
--- The bytes that are left, the most that one call gives, the calls, how many of them failed, and whether the last one
--- saw the end.
+-- The bytes that are left, the most that one call gives, the calls, how many of them failed, whether the last one saw
+-- the end, and whether one came right behind a call that did.
 pub record MemorySource : Type 0 where
   pub left : List ℕ
   pub most : ℕ
   pub calls : CallPlan
   pub faults : ℕ
   pub end_is_seen : Bool
+  pub read_past_end : Bool
 
 -- the bytes that are held, the most that one call takes, the calls, how many of them failed, and whether the last one did
 pub record MemorySink : Type 0 where

@@ -2,6 +2,7 @@
 --   ReadsAll      all bytes up to the end of input, or why not
 --   GivesUp       the cause of each refusal, and how many bytes were taken before it
 --   TakesAtMost   however it ended, no more than so many bytes were taken
+--   StopsAtEnd    however it ended, nothing was read behind the end
 -- Our own.
 use Rattle.std.specs.Prelude.{◌≡◌, ℕ, ◌+◌, ◌≤◌, Bool, true, false, List, length, MatchResult}
 use Rattle.std.specs.declared.option.Option.{Option}
@@ -31,3 +32,8 @@ pub record TakesAtMost (most : ℕ) (left left' : Option (List ℕ)) : Type 0 wh
   pub taken : List ℕ
   pub consumed : Consumes left left' taken
   pub few : length taken ≤ most
+
+-- Where no end was seen before, no read came right behind one that saw it: `end` is whether an end was seen before, and `past`
+-- and `past'` are whether a read ever came so, before and after.
+abbrev pub StopsAtEnd : Bool → Bool → Bool → Type 0
+StopsAtEnd end past past' = end ≡ false → past' ≡ past

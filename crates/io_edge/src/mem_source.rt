@@ -1,5 +1,5 @@
 // A source over memory.
-ghost use Rattle.std.specs.Prelude.{◌≡◌, ℕ, List, [], ◌+◌, ◌<◌, ◌↔◌, min, length, false, Some, None, IsErr, IfOk, OnOk, OnErr};
+ghost use Rattle.std.specs.Prelude.{◌≡◌, ℕ, List, [], ◌+◌, ◌<◌, ◌↔◌, min, length, false, ◌||◌, Some, None, IsErr, IfOk, OnOk, OnErr};
 ghost use Rattle.std.specs.Io.{ReadsAtMost};
 ghost use Rattle.std.specs.Io.KnownBytes.{ReadConsumes};
 ghost use Rattle.io_edge.specs.Causes.{HasCause, is_end};
@@ -19,6 +19,7 @@ pub struct MemSource {
     calls: Calls,
     faults: u64,
     end_is_seen: bool,
+    read_past_end: bool,
 }
 
 impl Model for MemSource {
@@ -33,6 +34,7 @@ impl Model for MemSource {
       calls = s.calls;
       faults = s.faults;
       end_is_seen = s.end_is_seen;
+      read_past_end = s.read_past_end;
     } };
 
     ghost invariant = { λ s. (s.at ≤ vec_len s.bytes) × (0 < s.most) × (s.faults ≤ s.calls.made) };
@@ -55,6 +57,7 @@ impl MemSource {
         ensures calls { IfOk result (λ source. source.calls ≡ new_plan fails.now) }
         ensures faults { IfOk result (λ source. source.faults ≡ 0) }
         ensures end { IfOk result (λ source. source.end_is_seen ≡ false) }
+        ensures past { IfOk result (λ source. source.read_past_end ≡ false) }
     {
         let bytes = Vec::from_slice(alloc, bytes)?;
         let calls = Calls::new(alloc, fails)?;
@@ -65,6 +68,7 @@ impl MemSource {
             calls,
             faults: 0,
             end_is_seen: false,
+            read_past_end: false,
         })
     }
 }
@@ -78,6 +82,8 @@ impl Source for MemSource {
 
     ghost end_is_seen = { λ s. s.end_is_seen };
 
+    ghost read_past_end = { λ s. s.read_past_end };
+
     /// Gives as many bytes as the buffer, `most` and what is left allow.
     fn read(&mut self, buf: &mut [u8]) -> Result<usize, Failed>
         requires { 0 < length buf.old }
@@ -85,6 +91,7 @@ impl Source for MemSource {
         ensures taken { ReadConsumes (Some self.old.left) (Some self.new.left) result buf.new }
         ensures cause { HasCause None self.old.faults self.new.faults result }
         ensures end { self.new.end_is_seen ≡ is_end result }
+        ensures past { self.new.read_past_end ≡ (self.old.end_is_seen || self.old.read_past_end) }
 
         // It fails exactly where the number of the call is in the list, and counts that.
         ensures fails { IsErr result ↔ FailsNext self.old.calls }
@@ -96,6 +103,7 @@ impl Source for MemSource {
         ensures calls { self.new.calls ≡ after_call self.old.calls }
         ensures most { self.new.most ≡ self.old.most }
     {
+        self.read_past_end |= self.end_is_seen;
         if self.calls.next_fails() {
             self.faults += 1;
             self.end_is_seen = false;

@@ -1,10 +1,10 @@
 // What bytes come from, and reading all of it.
-ghost use Rattle.std.specs.Prelude.{◌≡◌, ℕ, Bool, List, ◌<◌, ◌≤◌, ◌+◌, ◌^◌, length};
+ghost use Rattle.std.specs.Prelude.{◌≡◌, ℕ, Bool, List, ◌<◌, ◌≤◌, ◌+◌, ◌^◌, ◌||◌, length};
 ghost use Rattle.std.specs.declared.option.Option.{Option};
 ghost use Rattle.std.specs.Io.{ReadsAtMost};
 ghost use Rattle.std.specs.Io.KnownBytes.{ReadConsumes};
 ghost use Rattle.io_edge.specs.Causes.{HasCause, is_end};
-ghost use Rattle.io_edge.specs.Reading.{ReadsAll, TakesAtMost};
+ghost use Rattle.io_edge.specs.Reading.{ReadsAll, TakesAtMost, StopsAtEnd};
 
 use crate::bytes::Bytes;
 use std::alloc::Global;
@@ -44,6 +44,9 @@ pub trait Source {
     /// Whether the last read saw the end of input.
     ghost end_is_seen: { Self → Bool };
 
+    /// Whether a read ever came right behind one that saw the end of input.
+    ghost read_past_end: { Self → Bool };
+
     /// Puts the next bytes in front of the buffer, which isn't empty, and says how many.
     ///
     /// No bytes mean the end of input. A failed read takes none.
@@ -52,19 +55,21 @@ pub trait Source {
         ensures within { ReadsAtMost result buf.new }
         ensures taken { ReadConsumes (left self.old) (left self.new) result buf.new }
         ensures cause { HasCause highest_count (faults self.old) (faults self.new) result }
-        ensures end { end_is_seen self.new ≡ is_end result };
+        ensures end { end_is_seen self.new ≡ is_end result }
+        ensures past { read_past_end self.new ≡ (end_is_seen self.old || read_past_end self.old) };
 }
 
 const CHUNK: usize = 4096;
 
 /// All bytes up to the end of input, of which there may be `limit`.
 ///
-/// It takes no more than `limit + 1` bytes. What a refusal took is lost.
+/// It takes no more than `limit + 1` bytes, and reads nothing behind the end. What a refusal took is lost.
 pub fn read_to_end<S: Source>(alloc: Global, src: &mut S, limit: usize) -> Result<Bytes, InFault>
     requires { limit + 1 < 2 ^ 64 }
     ensures taken { ReadsAll S.highest_count limit (S.left src.old) (S.left src.new)
         (S.faults src.old) (S.faults src.new) (S.end_is_seen src.new) result }
     ensures at_most { TakesAtMost (limit + 1) (S.left src.old) (S.left src.new) }
+    ensures stops { StopsAtEnd (S.end_is_seen src.old) (S.read_past_end src.old) (S.read_past_end src.new) }
     ensures later { S.faults src.old ≤ S.faults src.new }
 {
     let mut bytes = Bytes::new(alloc);

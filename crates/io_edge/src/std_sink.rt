@@ -1,5 +1,5 @@
 // A sink over a writer of std.
-ghost use Rattle.std.specs.Prelude.{◌≡◌, ◌+◌, ◌-◌, ◌^◌, ◌<◌, min, length, false, Some, None, is_err, OnOk, OnErr};
+ghost use Rattle.std.specs.Prelude.{◌≡◌, ◌+◌, ◌-◌, ◌^◌, ◌<◌, min, length, false, Some, is_err, OnOk, OnErr};
 ghost use Rattle.std.specs.Io.KnownBytes.{WriteAppends};
 ghost use Rattle.io_edge.specs.Causes.{HasCause};
 ghost use Rattle.io_edge.specs.Writing.{WritesSome};
@@ -9,8 +9,8 @@ use crate::source::Failed;
 use std::io::Write;
 use std::marker::Model;
 
-/// A sink over any writer of std. It tells no bytes, and counts each error and each write of
-/// nothing.
+/// A sink over any writer of std. It tells the bytes that its writer tells, which for the real output are none, and counts
+/// each error and each write of nothing.
 #[derive(Drop)]
 pub struct StdSink<W: Write + Drop> {
     writer: W,
@@ -42,7 +42,7 @@ impl<W: Write + Drop> StdSink<W> {
 }
 
 impl<W: Write + Drop> Sink for StdSink<W> {
-    ghost held = { λ _. None };
+    ghost held = { λ s. W.contents s.writer };
 
     ghost faults = { λ s. s.faults };
 
