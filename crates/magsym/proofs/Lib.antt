@@ -2,7 +2,7 @@ mod Complete
 mod TellingLemmas
 pub mod CountLemmas
 pub mod OptionLemmas
-mod OptionOrder
+pub mod OptionOrder
 pub mod SpelledSizes
 pub mod Listed
 pub mod OneReport

@@ -14,7 +14,7 @@ drop_here (w ∷ ws) zero word e = cc
 drop_here (w ∷ ws) (suc i) word e = rw (add-one (suc i)) (drop_here ws i word e ∙ rw (add-one i) refl)
 
 -- what the options ask for once a word is read, or its fault
-abbrev after_word : List (List ℕ) → Result Options UsageFault → Result Command UsageFault
+abbrev pub after_word : List (List ℕ) → Result Options UsageFault → Result Command UsageFault
 after_word later (Ok read) = options read later
 after_word later (Err fault) = Err fault
 

@@ -1,4 +1,5 @@
 pub mod Commands
+pub mod OptionOrder
 pub mod Statuses
 pub mod Telling
 pub mod Outcomes

@@ -3,6 +3,7 @@
 ghost use Rattle.std.specs.Prelude.{◌≡◌, true};
 ghost use Rattle.cell_text.specs.Numbers.{decimal};
 ghost use Rattle.magsym.specs.Commands.{is_count, count_of, no_options, without_time, awaiting_skip, awaiting_take, with_option, with_skip, with_take, with_word, asked};
+ghost use Rattle.magsym.specs.OptionOrder.{ComeInAnyOrder};
 
 use crate::command::{Command, UsageFault};
 
@@ -192,3 +193,10 @@ impl Options {
         })
     }
 }
+
+/// In which order the options come does not matter.
+///
+/// Two neighbours, each with its value, may be exchanged, behind any options and before any words.
+pub fn options_come_in_any_order()
+    ensures { ComeInAnyOrder }
+{}

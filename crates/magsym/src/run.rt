@@ -1,7 +1,7 @@
 ghost use Rattle.std.specs.Prelude.{◌≡◌, ◌<◌, ◌≤◌};
 ghost use Rattle.magsym.specs.Statuses.{line_of};
 ghost use Rattle.magsym.specs.Telling.{Tells};
-ghost use Rattle.io_edge.specs.Reading.{TakesAtMost};
+ghost use Rattle.io_edge.specs.Reading.{TakesAtMost, StopsAtEnd};
 ghost use Rattle.magsym.specs.Outcomes.{Outcome, IsDone, IsRefusal, IsUsage};
 ghost use Rattle.magsym.specs.Completeness.{IsAnswerable, IsDoneOrMemory};
 
@@ -29,6 +29,7 @@ fn answer<I: Source, O: Sink, L: Ledger>(
 ) -> Status
     ensures outcome { Outcome words.now (record { left = I.left input.old; left_after = I.left input.new; in_faults = I.faults input.old; in_faults_after = I.faults input.new; in_highest = I.highest_count; end_is_seen = I.end_is_seen input.new; held = O.held out.old; held_after = O.held out.new; out_faults = O.faults out.old; out_faults_after = O.faults out.new; out_highest = O.highest_count }) result }
     ensures taken { TakesAtMost 262145 (I.left input.old) (I.left input.new) }
+    ensures stops { StopsAtEnd (I.end_is_seen input.old) (I.read_past_end input.old) (I.read_past_end input.new) }
     ensures input_untouched { IsUsage result → input.new ≡ input.old }
     ensures out_untouched { IsRefusal result → out.new ≡ out.old }
     ensures in_later { I.faults input.old ≤ I.faults input.new }
@@ -61,8 +62,8 @@ fn answer<I: Source, O: Sink, L: Ledger>(
 /// Does what the words ask: reads a cell from the input, writes the report to the output, and where there is none, one
 /// line on why to the error stream.
 ///
-/// The words are those behind the program's name. The input is read to its end, or up to one byte past its limit, however the
-/// run ends. After a whole report the error stream is as it was.
+/// The words are those behind the program's name. The input is read to its end and not behind it, or up to one byte past its
+/// limit, however the run ends. After a whole report the error stream is as it was.
 pub fn run<I: Source, O: Sink, E: Sink, L: Ledger>(
     alloc: Global,
     words: &Words,
@@ -76,6 +77,7 @@ pub fn run<I: Source, O: Sink, E: Sink, L: Ledger>(
     ensures told { Tells E.highest_count (E.held err.old) (E.held err.new) (E.faults err.old) (E.faults err.new) (E.last_failed err.new) (line_of result) }
     ensures err_untouched { IsDone result → err.new ≡ err.old }
     ensures taken { TakesAtMost 262145 (I.left input.old) (I.left input.new) }
+    ensures stops { StopsAtEnd (I.end_is_seen input.old) (I.read_past_end input.old) (I.read_past_end input.new) }
     ensures input_untouched { IsUsage result → input.new ≡ input.old }
     ensures out_untouched { IsRefusal result → out.new ≡ out.old }
     ensures in_later { I.faults input.old ≤ I.faults input.new }
@@ -104,6 +106,7 @@ pub(crate) fn run_counted<L: Ledger, I: Source, O: Sink, E: Sink>(
     ensures told { Tells E.highest_count (E.held err.old) (E.held err.new) (E.faults err.old) (E.faults err.new) (E.last_failed err.new) (line_of result) }
     ensures err_untouched { IsDone result → err.new ≡ err.old }
     ensures taken { TakesAtMost 262145 (I.left input.old) (I.left input.new) }
+    ensures stops { StopsAtEnd (I.end_is_seen input.old) (I.read_past_end input.old) (I.read_past_end input.new) }
     ensures input_untouched { IsUsage result → input.new ≡ input.old }
     ensures out_untouched { IsRefusal result → out.new ≡ out.old }
     ensures in_later { I.faults input.old ≤ I.faults input.new }
