@@ -7,9 +7,10 @@ use Rattle.crystal_spec.specs.Matrices.{Triple, Matrix}
 use Rattle.crystal_spec.specs.Crystals.{Structure}
 use Rattle.crystal_spec.specs.Increasing.{IsMember, IsIncreasing}
 use Rattle.crystal_spec.specs.Operations.{Operation, compare_of, sign_factor, ListsAll, ListsAllSame}
+use Rattle.crystal_spec.specs.Cells.{IsCell}
 use Rattle.crystal_spec.proofs.Images.{occupied_itself}
 use Rattle.basis_spec.specs.Translations.{IsPrimitive}
-use Rattle.basis_spec.specs.Bases.{IsCell, IsPrimitiveIn, SameCrystal, cell_in_basis}
+use Rattle.basis_spec.specs.Bases.{IsPrimitiveIn, SameCrystal, cell_in_basis}
 use Rattle.basis_spec.specs.Carrying.{KeepsAny, IsCarried, IsListed}
 use Rattle.basis_spec.proofs.OperationLists.{ListsWanted, wanted_of_all, all_of_wanted, wanted_of_same, same_of_wanted, carried_exactly, nothing_missed}
 

@@ -7,8 +7,9 @@ use Rattle.std.specs.Prelude.{◌↔◌}
 use Rattle.crystal_spec.specs.Matrices.{Triple, Matrix, product, image, determinant, adjugate, multiple, sum_of, identity}
 use Rattle.basis_spec.specs.Metrics.{matrix_multiple}
 use Rattle.crystal_spec.specs.Increasing.{IsMember}
-use Rattle.basis_spec.specs.Positions.{DiffersByCells, residue}
+use Rattle.basis_spec.specs.Positions.{residue}
 use Rattle.crystal_spec.specs.Operations.{IsWithinCell, Operation}
+use Rattle.crystal_spec.specs.Cells.{DiffersByCells}
 use Rattle.basis_spec.specs.Bases.{IsBack}
 use Rattle.basis_spec.specs.Translations.{pure_translation}
 use Rattle.basis_spec.specs.Carrying.{IsCarried}

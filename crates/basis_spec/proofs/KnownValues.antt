@@ -7,10 +7,11 @@ use Rattle.crystal_spec.specs.Moments.{axial_vectors, turn_matrix}
 use Rattle.crystal_spec.specs.Crystals.{Site, Structure}
 use Rattle.crystal_spec.specs.Increasing.{IsMember}
 use Rattle.crystal_spec.specs.Operations.{IsWithinCell, Operation}
+use Rattle.crystal_spec.specs.Cells.{HasOneAtomEach, IsCell}
 use Rattle.basis_spec.specs.Translations.{pure_translation}
 use Rattle.basis_spec.specs.StepBases.{IsStepBasis, IsSteps, IsClosed, InLattice}
 use Rattle.basis_spec.proofs.StepLists.{least_first, least_second, least_third}
-use Rattle.basis_spec.specs.Bases.{IsCell, HasOneAtomEach, cell_in_basis}
+use Rattle.basis_spec.specs.Bases.{cell_in_basis}
 use Rattle.basis_spec.specs.Positions.{origin, residue, triple}
 
 rows : ℤ → ℤ → ℤ → ℤ → ℤ → ℤ → ℤ → ℤ → ℤ → Matrix

@@ -6,9 +6,10 @@ use Rattle.crystal_spec.specs.declared.Sign.{Sign}
 use Rattle.crystal_spec.specs.declared.Sign.TheVariants.{Same}
 use Rattle.crystal_spec.specs.Matrices.{Triple, Matrix, image, multiple}
 use Rattle.crystal_spec.specs.Crystals.{Structure, Occupied, Keeps, IsPositive}
-use Rattle.basis_spec.specs.Positions.{DiffersByCells, residue}
+use Rattle.basis_spec.specs.Positions.{residue}
 use Rattle.crystal_spec.specs.Operations.{IsWithinCell, Operation, sign_factor, compare_of, IsSymmetryOperation, ListsAll, ListsAllSame}
 use Rattle.crystal_spec.specs.Increasing.{IsIncreasing, IsMember}
+use Rattle.crystal_spec.specs.Cells.{DiffersByCells}
 use Rattle.basis_spec.specs.Translations.{IsPrimitive}
 use Rattle.basis_spec.specs.Bases.{SameCrystal}
 use Rattle.basis_spec.specs.Carrying.{KeepsAny, IsCarried, IsListed}

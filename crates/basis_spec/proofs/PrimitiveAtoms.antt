@@ -1,7 +1,7 @@
 -- The atoms of the cell in another basis are within it, no two at one position; and inverse changes of basis.
 use Rattle.std.proofs.lemmas.List.{length-map}
 use Rattle.crystal_spec.specs.Increasing.{IsDistinct}
-use Rattle.crystal_spec.proofs.Images.{IsApart, same_within}
+use Rattle.crystal_spec.proofs.Images.{IsApart}
 use Rattle.basis_spec.proofs.PrimitiveCell.{differs_at, differs_itself}
 use Rattle.std.proofs.Common.{suc, length, ◌≤◌, ◌≡◌, ℕ, Bool, true, false, ℤ, pos, ◌<ℤ◌, List, [], ◌∷◌, map, refl, sym, ap, subst, ◌∙◌, inl, inr, arith}
 use Rattle.std.proofs.lemmas.Int.{ints}
@@ -10,7 +10,8 @@ use Rattle.basis_spec.specs.Metrics.{matrix_multiple}
 use Rattle.crystal_spec.specs.Crystals.{Site, Structure}
 use Rattle.crystal_spec.specs.Increasing.{IsMember}
 use Rattle.crystal_spec.specs.Operations.{IsWithinCell}
-use Rattle.basis_spec.specs.Bases.{IsCell, IsBack, is_same_position, without_position, first_at_each_position, site_in_basis, cell_in_basis, HasOneAtomEach}
+use Rattle.crystal_spec.specs.Cells.{HasOneAtomEach, IsCell}
+use Rattle.basis_spec.specs.Bases.{IsBack, is_same_position, without_position, first_at_each_position, site_in_basis, cell_in_basis}
 use Rattle.basis_spec.proofs.MatrixLaws.{image-product, image-identity, image-multiple, image-matrix_multiple, same_images}
 use Rattle.basis_spec.proofs.Cancelling.{image_cancel}
 use Rattle.basis_spec.proofs.Residues.{residue_within}
@@ -71,11 +72,7 @@ fewer_atoms c r =
     let e = length-map c.sites (site_in_basis c.n c.kind r) in
     omega (arith, h, e)
 
--- atoms within the cell and apart are one at each position
-pub one_atom_each_of_apart : (c : Structure) → IsApart c → HasOneAtomEach c
-one_atom_each_of_apart c h a b m k d = h.told a b m k (same_within c.n a.position b.position d.cells (h.within a m) (h.within b k) d.is)
-
--- and conversely, in a list of atoms without repeats
+-- the atoms of a cell without repeats are within it and apart
 pub apart_of_cell : (c : Structure) → IsCell c → IsDistinct c.sites → IsApart c
 apart_of_cell c cell d = record { within = cell.within; told = λ a b m k e. cell.one_atom_each a b m k (differs_at refl e (differs_itself c.n a.position)); distinct = d }
 

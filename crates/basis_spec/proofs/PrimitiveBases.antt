@@ -12,13 +12,14 @@ use Rattle.crystal_spec.specs.Matrices.{Triple, Matrix, product, image, determin
 use Rattle.crystal_spec.specs.Crystals.{Site, Structure}
 use Rattle.crystal_spec.specs.Increasing.{IsMember}
 use Rattle.crystal_spec.specs.Operations.{Operation}
+use Rattle.crystal_spec.specs.Cells.{IsCell}
 use Rattle.crystal_spec.proofs.Identities.{by_integers}
 use Rattle.crystal_spec.proofs.Images.{occupied_itself}
 use Rattle.crystal_spec.proofs.Isometries.{determinant-product}
 use Rattle.basis_spec.specs.Positions.{triple}
 use Rattle.basis_spec.specs.Metrics.{matrix_multiple}
 use Rattle.basis_spec.specs.Translations.{IsTranslation, ListsPureTranslations}
-use Rattle.basis_spec.specs.Bases.{IsCell, IsBack, IsPrimitiveIn, cell_in_basis, first_at_each_position, site_in_basis}
+use Rattle.basis_spec.specs.Bases.{IsBack, IsPrimitiveIn, cell_in_basis, first_at_each_position, site_in_basis}
 use Rattle.basis_spec.specs.StepBases.{IsStepBasis, IsSteps, InLattice}
 use Rattle.basis_spec.proofs.MatrixLaws.{product_assoc, image-product, image-identity, same_images}
 use Rattle.basis_spec.proofs.OperationBases.{at_least_one}

@@ -6,12 +6,13 @@
 -- the images. A translation u there is R t, where t is a translation here; so u is whole cells.
 use Rattle.std.proofs.Common.{◌≡◌, ℕ, pos, negsuc, ◌<ℤ◌, map, refl, sym, ap, subst, ◌∙◌}
 use Rattle.crystal_spec.specs.Matrices.{Triple, Matrix, image, determinant, multiple, sum_of, identity}
-use Rattle.basis_spec.specs.Positions.{origin, DiffersByCells, residue}
+use Rattle.basis_spec.specs.Positions.{origin, residue}
 use Rattle.crystal_spec.specs.Moments.{turn_matrix}
 use Rattle.crystal_spec.specs.Crystals.{Site, Structure, Occupied}
 use Rattle.crystal_spec.specs.Increasing.{IsMember}
+use Rattle.crystal_spec.specs.Cells.{DiffersByCells, HasOneAtomEach}
 use Rattle.basis_spec.specs.Translations.{IsTranslation, IsPrimitive, HasOnlyWholeCells}
-use Rattle.basis_spec.specs.Bases.{ComesFrom, SameCrystal, HasOneAtomEach, IsBack}
+use Rattle.basis_spec.specs.Bases.{ComesFrom, SameCrystal, IsBack}
 use Rattle.basis_spec.specs.Bases.{site_in_basis, cell_in_basis}
 use Rattle.basis_spec.proofs.MatrixLaws.{image-identity, image-multiple, image-sum_of, image-product, image-matrix_multiple, multiple_swap, multiple-origin, multiple-sum_of, sum_of-origin, sum_assoc, sum_comm, add_subtract, subtract_add, add_difference, metric_in-metric_in_adjugate}
 use Rattle.basis_spec.proofs.Cancelling.{sum_cancel, image_cancel}

@@ -5,11 +5,12 @@ use Rattle.std.proofs.lemmas.Bool.Decides.{Decides-eqb}
 use Rattle.std.proofs.lemmas.List.{length-map}
 use Rattle.std.proofs.lemmas.Int.{ints}
 use Rattle.crystal_spec.specs.Matrices.{Triple, multiple, sum_of}
-use Rattle.basis_spec.specs.Positions.{origin, DiffersByCells, residue}
+use Rattle.basis_spec.specs.Positions.{origin, residue}
 use Rattle.crystal_spec.specs.Crystals.{Site, Structure}
 use Rattle.crystal_spec.specs.Increasing.{IsMember, IsDistinct}
 use Rattle.basis_spec.specs.Translations.{IsTranslation, IsPureTranslation, of_species, IsRarest}
 use Rattle.crystal_spec.specs.Operations.{IsWithinCell}
+use Rattle.crystal_spec.specs.Cells.{DiffersByCells}
 use Rattle.crystal_spec.proofs.Entrywise.{triple_same}
 use Rattle.basis_spec.proofs.MatrixLaws.{sum_comm, sum_assoc, multiple-origin}
 use Rattle.basis_spec.proofs.Cancelling.{sum_cancel}

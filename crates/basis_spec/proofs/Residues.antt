@@ -4,8 +4,9 @@ use Rattle.std.specs.Int.{int_rem_euclid, int_div_euclid}
 use Rattle.std.proofs.lemmas.Int.{ints}
 use Rattle.std.proofs.lemmas.Nat.{div-add-mod'}
 use Rattle.crystal_spec.specs.Matrices.{Triple}
-use Rattle.basis_spec.specs.Positions.{origin, DiffersByCells, IsWholeCells, residue}
+use Rattle.basis_spec.specs.Positions.{origin, IsWholeCells, residue}
 use Rattle.crystal_spec.specs.Operations.{IsWithinCell}
+use Rattle.crystal_spec.specs.Cells.{DiffersByCells}
 use Rattle.crystal_spec.proofs.Entrywise.{triple_same}
 
 some_n : (n : ℕ) → pos 0 <ℤ pos n → 0 < n

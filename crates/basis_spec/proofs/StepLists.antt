@@ -6,9 +6,10 @@ use Rattle.std.proofs.lemmas.Int.{ints}
 use Rattle.ring.specs.Ring.{var, con, ◌:+◌, ◌:*◌}
 use Rattle.ring.proofs.IntOrder.{weaken_lt}
 use Rattle.crystal_spec.specs.Matrices.{Triple, multiple, sum_of}
-use Rattle.basis_spec.specs.Positions.{origin, DiffersByCells, residue, triple}
+use Rattle.basis_spec.specs.Positions.{origin, residue, triple}
 use Rattle.crystal_spec.specs.Increasing.{IsMember}
 use Rattle.crystal_spec.specs.Operations.{IsWithinCell, Operation}
+use Rattle.crystal_spec.specs.Cells.{DiffersByCells}
 use Rattle.basis_spec.specs.Translations.{pure_translation}
 use Rattle.basis_spec.specs.StepBases.{IsClosed, InLattice, IsLattice, IsLeastPositive}
 use Rattle.crystal_spec.proofs.Entrywise.{triple_same}

@@ -6,7 +6,7 @@ use Rattle.std.proofs.Common.{◌≡◌, ℕ, ℤ, pos, negsuc, ◌*ℤ◌, refl
 use Rattle.crystal_spec.specs.declared.MomentKind.{MomentKind}
 use Rattle.crystal_spec.specs.Matrices.{Triple, Matrix, image, determinant, adjugate, multiple, sum_of, identity}
 use Rattle.crystal_spec.specs.Crystals.{Structure, Occupied, Keeps, position_after, moment_after, IsPositive}
-use Rattle.basis_spec.specs.Positions.{DiffersByCells}
+use Rattle.crystal_spec.specs.Cells.{DiffersByCells}
 use Rattle.basis_spec.specs.Translations.{IsTranslation}
 use Rattle.basis_spec.proofs.MatrixLaws.{image-identity, image-multiple, image-sum_of, image-image_adjugate, multiple-multiple, multiple-sum_of, sum_assoc, sum_swap, subtract_add, metric_in-identity}
 use Rattle.crystal_spec.proofs.Isometries.{determinant-isometry, multiple-one}

@@ -1,7 +1,5 @@
 -- The same crystal in another basis. R takes coordinates in the one basis to those in the other: it is Q = P⁻¹, where P has
 -- the new basis vectors as columns. In units of 1/n these vectors are n P.
---   IsCell c                       c is a cell: a positive metric tensor, atoms within the cell, one at a position
---   HasOneAtomEach c               no two atoms of the cell are at one position, but for whole cells
 --   ComesFrom c r s p m            R brings an atom of c of species s to the position p and the moment m
 --   SameCrystal c c' r             c' is the crystal of c in the basis to which R takes coordinates
 --   IsBack n in_it r               R takes coordinates to those in a basis of the lattice of which in_it tells
@@ -9,33 +7,15 @@
 --   site_in_basis n kind r a       the atom a, with a moment of this kind, in the other basis, within one cell
 --   cell_in_basis c r              the cell of c in the other basis
 --   IsPrimitiveIn c r              that cell is the same crystal, and primitive
-use Rattle.std.specs.Prelude.{◌≡◌, ◌↔◌, ℕ, pos, ◌*ℤ◌, ◌≤ℤ◌, ◌<ℤ◌, ◌<◌, List, [], ◌∷◌, map, length, Bool, true, false, ◌&&◌}
+use Rattle.std.specs.Prelude.{◌≡◌, ◌↔◌, ℕ, pos, ◌*ℤ◌, ◌≤ℤ◌, List, [], ◌∷◌, map, Bool, true, false, ◌&&◌}
 use Rattle.std.specs.Ordering.{int_eq}
 use Rattle.crystal_spec.specs.declared.MomentKind.{MomentKind}
-use Rattle.crystal_spec.specs.Matrices.{Triple, Matrix, product, image, determinant, adjugate, transposed, identity}
+use Rattle.crystal_spec.specs.Matrices.{Triple, Matrix, product, image, determinant, adjugate, identity}
 use Rattle.crystal_spec.specs.Moments.{turn_matrix}
-use Rattle.crystal_spec.specs.Crystals.{Site, Structure, IsPositive, Occupied}
-use Rattle.crystal_spec.specs.Increasing.{IsMember}
-use Rattle.crystal_spec.specs.Operations.{IsWithinCell}
-use Rattle.basis_spec.specs.Positions.{DiffersByCells, IsWholeCells, residue}
+use Rattle.crystal_spec.specs.Crystals.{Site, Structure, Occupied}
+use Rattle.basis_spec.specs.Positions.{IsWholeCells, residue}
 use Rattle.basis_spec.specs.Metrics.{matrix_multiple, metric_in}
 use Rattle.basis_spec.specs.Translations.{IsPrimitive}
-
--- no two atoms are at one position, whatever their species
-abbrev pub HasOneAtomEach : Structure → Type 0
-HasOneAtomEach c = (a b : Site) → IsMember a c.sites → IsMember b c.sites → DiffersByCells c.n a.position b.position → a ≡ b
-
--- what every cell has: a symmetric, positive metric tensor, and at least one atom, each of a named species and within the
--- cell, no two at one position
-pub record IsCell (c : Structure) : Type 0 where
-  pub symmetric : transposed c.metric ≡ c.metric
-  pub positive : IsPositive c.metric
-  pub some_cells : pos 0 <ℤ pos c.n
-  pub first : Site
-  pub of_cell : IsMember first c.sites
-  pub named : (a : Site) → IsMember a c.sites → a.species < length c.names
-  pub within : (a : Site) → IsMember a c.sites → IsWithinCell c.n a.position
-  pub one_atom_each : HasOneAtomEach c
 
 -- an atom of the one crystal that R brings to this position and moment
 pub record ComesFrom (c : Structure) (r : Matrix) (species : ℕ) (position moment : Triple) : Type 0 where

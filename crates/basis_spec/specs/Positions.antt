@@ -1,12 +1,11 @@
--- Positions and translations, and that they differ by whole cells. In units of 1/n.
+-- Positions and translations, and whole cells. In units of 1/n.
 --   triple x y z          the column of these coordinates
 --   origin                the column of zeros
---   DiffersByCells n p q  p and q differ by a multiple of n in each coordinate
 --   IsWholeCells n t      t is a multiple of n in each coordinate
 --   residue n p           p modulo n, from 0 to n - 1 in each coordinate
 use Rattle.std.specs.Prelude.{◌≡◌, ℕ, ℤ, pos}
 use Rattle.std.specs.Int.{int_rem_euclid}
-use Rattle.crystal_spec.specs.Matrices.{Triple, multiple, sum_of}
+use Rattle.crystal_spec.specs.Matrices.{Triple, multiple}
 
 -- the column of these coordinates
 abbrev pub triple : ℤ → ℤ → ℤ → Triple
@@ -15,11 +14,6 @@ triple x y z = record { x = x; y = y; z = z }
 -- the column of zeros
 abbrev pub origin : Triple
 origin = triple (pos 0) (pos 0) (pos 0)
-
--- p is q and so many whole cells
-pub record DiffersByCells (n : ℕ) (p q : Triple) : Type 0 where
-  pub cells : Triple
-  pub is : p ≡ sum_of q (multiple (pos n) cells)
 
 -- t is so many whole cells
 pub record IsWholeCells (n : ℕ) (t : Triple) : Type 0 where

@@ -12,7 +12,7 @@ use Rattle.crystal_spec.specs.Moments.{axial_vectors}
 use Rattle.crystal_spec.specs.Crystals.{Site, Structure}
 use Rattle.crystal.specs.Names.{is_name}
 use Rattle.crystal.specs.Occupants.{NoneAt}
-use Rattle.crystal.specs.Cells.{IsCell, IsSiteOf, AreSitesOf, AreApart}
+use Rattle.crystal.specs.Cells.{IsCellWithinLimits, IsSiteOf, AreSitesOf, AreApart}
 use Rattle.cell_text.specs.Numbers.{scaled, common_denominator}
 use Rattle.cell_text.specs.Entries.{positions, moments}
 use Rattle.cell_text.specs.Rules.{first_fault, cell_fault}
@@ -51,7 +51,7 @@ same_abs (negsuc a) some = absurd (omega (arith, ints, some))
 
 -- ---- what is known of a cell and its atoms
 
-metric-plain : (c : Structure) → IsCell c → IsPrintable c → IsPlainMetric c
+metric-plain : (c : Structure) → IsCellWithinLimits c → IsPrintable c → IsPlainMetric c
 metric-plain c cell printable = record {
   some = some_abs c.scale cell.scale_at_least;
   small_scale = most_abs c.scale cell.scale_at_least printable.scale;
@@ -62,7 +62,7 @@ metric-plain c cell printable = record {
   positive = cell.positive;
 }
 
-has_units : (c : Structure) → IsCell c → HasUnits c
+has_units : (c : Structure) → IsCellWithinLimits c → HasUnits c
 has_units c cell = record { some_n = cell.n_at_least; some_k = cell.k_at_least; small_n = cell.n_at_most; small_k = cell.k_at_most }
 
 name_at : (names : List (List ℕ)) (i : ℕ) → list_all is_name names ≡ true → i < length names → is_name (get_or names i []) ≡ true
@@ -119,7 +119,7 @@ below_from : (total n : ℕ) (kind : MomentKind) (sites : List Site) → AreSite
 below_from total n kind [] h = tt
 below_from total n kind (s ∷ sites) h = (h.0.named, below_from total n kind sites h.1)
 
-names-whole : (c : Structure) → IsCell c → IsPrintable c → names_of (map (entry c) c.sites) ≡ c.names
+names-whole : (c : Structure) → IsCellWithinLimits c → IsPrintable c → names_of (map (entry c) c.sites) ≡ c.names
 unfolding names_of
 names-whole c cell printable = names-fold c [] c.sites ∙ names-by_first_use c.names 0 c.sites cell.names_differ (below_from (length c.names) c.n c.kind c.sites cell.sites) printable.species
 
@@ -127,7 +127,7 @@ part-reduced : (n : ℕ) (z : ℤ) → 0 < n → (pos 0 ≤ℤ z) × (z <ℤ pos
 part-reduced n (pos a) some h = ap (residue n) (scaled-reduced n (pos a) some) ∙ residue_below n a (omega (arith, ints, h.1))
 part-reduced n (negsuc a) some h = absurd (omega (arith, ints, h.0))
 
-site-whole : (c : Structure) (s : Site) → IsCell c → IsSiteOf (length c.names) c.n c.kind s → site_of c.names c.n c.k (entry c s) ≡ s
+site-whole : (c : Structure) (s : Site) → IsCellWithinLimits c → IsSiteOf (length c.names) c.n c.kind s → site_of c.names c.n c.k (entry c s) ≡ s
 site-whole c s cell h =
     let number : number_of c.names (name_of c s) ≡ s.species = number-of_name c.names s.species cell.names_differ h.named in
     let x : part_of c.n (reduced c.n s.position.x) ≡ s.position.x = part-reduced c.n s.position.x cell.n_at_least h.within.x in
@@ -138,12 +138,12 @@ site-whole c s cell h =
     let mc : scaled c.k (reduced c.k s.moment.z) ≡ s.moment.z = scaled-reduced c.k s.moment.z cell.k_at_least in
     λ i. record { species = number i; position = record { x = x i; y = y i; z = z i }; moment = record { x = ma i; y = mb i; z = mc i } }
 
-sites-whole : (c : Structure) (sites : List Site) → IsCell c → AreSitesOf (length c.names) c.n c.kind sites → map (site_of c.names c.n c.k) (map (entry c) sites) ≡ sites
+sites-whole : (c : Structure) (sites : List Site) → IsCellWithinLimits c → AreSitesOf (length c.names) c.n c.kind sites → map (site_of c.names c.n c.k) (map (entry c) sites) ≡ sites
 sites-whole c [] cell h = refl
 sites-whole c (s ∷ sites) cell h =
     ap (λ (t : Site). t ∷ map (site_of c.names c.n c.k) (map (entry c) sites)) (site-whole c s cell h.0) ∙ ap (λ (ts : List Site). s ∷ ts) (sites-whole c sites cell h.1)
 
-cell_with-whole : (c : Structure) → IsCell c → IsPrintable c → cell_with (whole c) ≡ c
+cell_with-whole : (c : Structure) → IsCellWithinLimits c → IsPrintable c → cell_with (whole c) ≡ c
 unfolding cell_with
 cell_with-whole c cell printable =
     let names = names-whole c cell printable in
@@ -163,7 +163,7 @@ cell_with-whole c cell printable =
 -- ---- the text spells the cell
 
 -- A printable cell is the one that its text spells.
-pub cell_file_text-spells : (c : Structure) → IsCell c → IsPrintable c → Spells (cell_file_text c) c
+pub cell_file_text-spells : (c : Structure) → IsCellWithinLimits c → IsPrintable c → Spells (cell_file_text c) c
 unfolding cell_fault
 cell_file_text-spells c cell printable =
     let metric = metric-plain c cell printable in

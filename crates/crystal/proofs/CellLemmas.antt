@@ -1,13 +1,16 @@
 -- Cells with one name or one atom more, and what a cell's atoms are.
 use Rattle.std.proofs.Common.{◌≡◌, refl, sym, ap, subst, ◌∙◌, ◌⊎◌, inl, inr, ℕ, ◌+◌, ◌≤◌, ◌<◌, List, [], ◌∷◌, ◌++◌, length, arith, length-append}
-use Rattle.std.specs.Prelude.{slice_get, Some}
+use Rattle.std.specs.Prelude.{pos, ◌<ℤ◌, slice_get, Some}
+use Rattle.std.proofs.lemmas.Int.{ints}
 use Rattle.crystal_spec.specs.Increasing.{IsMember, IsDistinct}
 use Rattle.crystal_spec.specs.declared.MomentKind.{MomentKind}
-use Rattle.crystal_spec.specs.Matrices.{Triple}
+use Rattle.crystal_spec.specs.Matrices.{Triple, Matrix, transposed}
 use Rattle.crystal_spec.specs.Crystals.{Site, Structure}
-use Rattle.crystal_spec.proofs.Images.{IsApart}
+use Rattle.crystal_spec.specs.Cells.{IsCell}
+use Rattle.crystal_spec.proofs.Entrywise.{matrix_same}
+use Rattle.crystal_spec.proofs.Images.{IsApart, one_atom_each_of_apart}
 use Rattle.crystal.specs.Occupants.{NoneAt}
-use Rattle.crystal.specs.Cells.{IsCell, IsSiteOf, AreSitesOf, AreApart}
+use Rattle.crystal.specs.Cells.{IsCellWithinLimits, IsSiteOf, IsSymmetric, AreSitesOf, AreApart}
 
 -- ---- one more
 sites_more : (m n : ℕ) (kind : MomentKind) (xs : List Site) (x : Site) → AreSitesOf m n kind xs → IsSiteOf m n kind x → AreSitesOf m n kind (xs ++ x ∷ [])
@@ -52,7 +55,7 @@ length_more : {X : Type 0} (xs : List X) (x : X) → length (xs ++ x ∷ []) ≡
 length_more xs x = length-append xs (x ∷ [])
 
 -- a cell with one atom more
-pub atom_more : (c : Structure) (x : Site) → IsCell c → IsSiteOf (length c.names) c.n c.kind x → NoneAt x.position c.sites → length c.sites < 512 → IsCell (record c { sites = c.sites ++ x ∷ [] })
+pub atom_more : (c : Structure) (x : Site) → IsCellWithinLimits c → IsSiteOf (length c.names) c.n c.kind x → NoneAt x.position c.sites → length c.sites < 512 → IsCellWithinLimits (record c { sites = c.sites ++ x ∷ [] })
 atom_more c x h k free few = record {
   positive = h.positive;
   symmetric = h.symmetric;
@@ -64,6 +67,7 @@ atom_more c x h k free few = record {
   k_at_least = h.k_at_least;
   k_at_most = h.k_at_most;
   names_differ = h.names_differ;
+  few_names = h.few_names;
   some = omega (arith, length_more c.sites x);
   few = omega (arith, length_more c.sites x);
   first = λ s e. h.first s (first_more c.sites x s h.some e);
@@ -72,8 +76,8 @@ atom_more c x h k free few = record {
 }
 
 -- a cell with one name more
-pub name_more : (c : Structure) (name : List ℕ) → IsCell c → (IsMember name c.names → ⊥) → IsCell (record c { names = c.names ++ name ∷ [] })
-name_more c name h new = record {
+pub name_more : (c : Structure) (name : List ℕ) → IsCellWithinLimits c → (IsMember name c.names → ⊥) → length c.names < 512 → IsCellWithinLimits (record c { names = c.names ++ name ∷ [] })
+name_more c name h new fewer = record {
   positive = h.positive;
   symmetric = h.symmetric;
   entries = h.entries;
@@ -84,6 +88,7 @@ name_more c name h new = record {
   k_at_least = h.k_at_least;
   k_at_most = h.k_at_most;
   names_differ = distinct_more c.names name h.names_differ new;
+  few_names = omega (arith, length_more c.names name, fewer);
   some = h.some;
   few = h.few;
   first = h.first;
@@ -114,9 +119,40 @@ distinct [] h = tt
 distinct (x ∷ xs) h = ((λ m. none_member x.position xs x h.0 m refl), distinct xs h.1)
 
 -- a cell's atoms are within it and apart
-pub apart_cell : (c : Structure) → IsCell c → IsApart c
+pub apart_cell : (c : Structure) → IsCellWithinLimits c → IsApart c
 apart_cell c h = record {
   within = λ a m. (site_member (length c.names) c.n c.kind c.sites a h.sites m).within;
   told = λ a b j k e. told c.sites a b h.apart j k e;
   distinct = distinct c.sites h.apart;
 }
+
+-- ---- the definition of a cell
+-- a symmetric metric tensor is its own transpose
+symmetric_transposed : (g : Matrix) → IsSymmetric g → transposed g ≡ g
+symmetric_transposed g h = matrix_same refl h.ab h.ac (sym h.ab) refl h.bc (sym h.ac) (sym h.bc) refl
+
+record First (xs : List Site) : Type 0 where
+  site : Site
+  of_list : IsMember site xs
+
+first_of : (xs : List Site) → 1 ≤ length xs → First xs
+first_of [] h = absurd (omega arith)
+first_of (x ∷ xs) h = record { site = x; of_list = inl refl }
+
+some_of : (n : ℕ) → 1 ≤ n → pos 0 <ℤ pos n
+some_of n h = omega (arith, ints, h)
+
+-- what the code holds is a cell
+pub is_cell : (c : Structure) → IsCellWithinLimits c → IsCell c
+is_cell c h =
+    let f = first_of c.sites h.some in
+    record {
+      symmetric = symmetric_transposed c.metric h.symmetric;
+      positive = h.positive;
+      some_cells = some_of c.n h.n_at_least;
+      first = f.site;
+      of_cell = f.of_list;
+      named = λ a m. (site_member (length c.names) c.n c.kind c.sites a h.sites m).named;
+      within = λ a m. (site_member (length c.names) c.n c.kind c.sites a h.sites m).within;
+      one_atom_each = one_atom_each_of_apart c (apart_cell c h);
+    }

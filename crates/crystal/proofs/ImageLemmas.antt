@@ -7,7 +7,7 @@ use Rattle.crystal_spec.specs.Moments.{moment_matrix}
 use Rattle.crystal_spec.specs.Crystals.{Site, Structure, Occupied, Keeps, KeepsMetric}
 use Rattle.crystal_spec.proofs.Images.{occupant_within, keeps_by_images, images_of_keeps}
 use Rattle.crystal.specs.Occupants.{IsOccupant, NoneAt}
-use Rattle.crystal.specs.Cells.{IsCell}
+use Rattle.crystal.specs.Cells.{IsCellWithinLimits}
 use Rattle.crystal.specs.Carrying.{FoldsTo, HasImage, HaveImages}
 use Rattle.crystal.proofs.CellLemmas.{apart_cell, none_member}
 
@@ -25,7 +25,7 @@ pub drop_at : (xs : List Site) (i : ℕ) (x : Site) → slice_get xs i ≡ Some 
 drop_at xs i x e = drop_suc xs i x e ∙ ap (λ (k : ℕ). x ∷ drop k xs) (sym (add-one i))
 
 -- where an atom of the cell is at the position within the cell, that atom decides
-pub occupied_at : {T : Type 0} (c : Structure) → IsCell c → (s : ℕ) (p m q : Triple) (i : ℕ) (b : Site) → FoldsTo c.n p q → IsOccupant c.sites q i → slice_get c.sites i ≡ Some b →
+pub occupied_at : {T : Type 0} (c : Structure) → IsCellWithinLimits c → (s : ℕ) (p m q : Triple) (i : ℕ) (b : Site) → FoldsTo c.n p q → IsOccupant c.sites q i → slice_get c.sites i ≡ Some b →
     T ↔ ((b.species ≡ s) × (b.moment ≡ m)) → T ↔ Occupied c s p m
 occupied_at {T} c cell s p m q i b f o e test = (forth, back)
   where
@@ -52,7 +52,7 @@ occupied_at {T} c cell s p m q i b f o e test = (forth, back)
         test.1 (ap (λ (a : Site). a.species) one ∙ k.same_species, ap (λ (a : Site). a.moment) one ∙ k.same_moment)
 
 -- where no atom is there, the position is not occupied
-pub unoccupied_at : (c : Structure) → IsCell c → (s : ℕ) (p m q : Triple) → FoldsTo c.n p q → NoneAt q c.sites → Occupied c s p m → ⊥
+pub unoccupied_at : (c : Structure) → IsCellWithinLimits c → (s : ℕ) (p m q : Triple) → FoldsTo c.n p q → NoneAt q c.sites → Occupied c s p m → ⊥
 unoccupied_at c cell s p m q f none k =
     none_member q c.sites k.site none k.of_cell (occupant_within c (apart_cell c cell) s p q m f.cells f.within f.same k)
 
@@ -66,7 +66,7 @@ all_images c w t l [] h = tt
 all_images c w t l (x ∷ xs) h = (h x (inl refl), all_images c w t l xs (λ a m. h a (inr m)))
 
 -- a map keeps the crystal of a cell where it keeps the metric tensor and each atom has an image
-pub keeps_exactly : {T : Type 0} (c : Structure) (w : Matrix) (t : Triple) (sign : ℤ) → IsCell c → sign *ℤ sign ≡ pos 1 → KeepsMetric c.metric w → T ↔ HaveImages c w t (moment_matrix c.kind w sign) c.sites → T ↔ Keeps c w t sign
+pub keeps_exactly : {T : Type 0} (c : Structure) (w : Matrix) (t : Triple) (sign : ℤ) → IsCellWithinLimits c → sign *ℤ sign ≡ pos 1 → KeepsMetric c.metric w → T ↔ HaveImages c w t (moment_matrix c.kind w sign) c.sites → T ↔ Keeps c w t sign
 keeps_exactly c w t sign cell s k test = (
   (λ h. keeps_by_images c w t sign (apart_cell c cell) cell.positive s k (λ a m. image_member c w t (moment_matrix c.kind w sign) c.sites a (test.0 h) m)),
   (λ h. test.1 (all_images c w t (moment_matrix c.kind w sign) c.sites (images_of_keeps c w t sign h))),

@@ -1,6 +1,8 @@
--- The cells that the code holds.
---   IsCell c   c is a cell: a positive metric tensor, units within bounds, names that differ, and 1 to 512 atoms within the
---              cell, of named species and with moments of the cell's kind, no two at one position
+-- The cells that the code holds: atom by atom, and with the bounds of their sizes.
+--   IsCellWithinLimits c   c is a cell: a positive metric tensor, units within bounds, up to 512 names that differ, and 1 to
+--                          512 atoms within the cell, of named species and with moments of the cell's kind, no two at one
+--                          position
+-- Each is a cell as `IsCell` of crystal_spec defines it.
 use Rattle.std.specs.Prelude.{◌≡◌, ℕ, pos, ◌*◌, ◌^◌, ◌<◌, ◌≤◌, ◌≤ℤ◌, List, [], ◌∷◌, length, slice_get, Some}
 use Rattle.crystal_spec.specs.Increasing.{IsDistinct}
 use Rattle.crystal_spec.specs.declared.MomentKind.{MomentKind}
@@ -33,7 +35,7 @@ abbrev pub AreApart : List Site → Type 0
 AreApart [] = Unit {0}
 AreApart (site ∷ sites) = NoneAt site.position sites × AreApart sites
 
-pub record IsCell (c : Structure) : Type 0 where
+pub record IsCellWithinLimits (c : Structure) : Type 0 where
   pub positive : IsPositive c.metric
   pub symmetric : IsSymmetric c.metric
   pub entries : EntriesAtMost (10 ^ 16) c.metric
@@ -44,6 +46,7 @@ pub record IsCell (c : Structure) : Type 0 where
   pub k_at_least : 1 ≤ c.k
   pub k_at_most : c.k ≤ 10 ^ 6
   pub names_differ : IsDistinct c.names
+  pub few_names : length c.names ≤ 512
   pub some : 1 ≤ length c.sites
   pub few : length c.sites ≤ 512
   pub first : (site : Site) → slice_get c.sites 0 ≡ Some site → site.species ≡ 0

@@ -3,10 +3,11 @@ ghost use Rattle.crystal_spec.specs.Increasing.{IsMember};
 ghost use Rattle.crystal_spec.specs.Moments.{IsOfKind};
 ghost use Rattle.crystal_spec.specs.Crystals.{IsPositive};
 ghost use Rattle.crystal_spec.specs.Operations.{IsWithinCell};
+ghost use Rattle.crystal_spec.specs.Cells.{IsCell};
 ghost use Rattle.crystal.specs.Views.{metric_of, site_of, triple_of};
 ghost use Rattle.crystal.specs.Occupants.{IsOccupant, NoneAt};
 ghost use Rattle.crystal.specs.Bounds.{EntriesAtMost, CoordinatesAtMost};
-ghost use Rattle.crystal.specs.Cells.{IsCell, IsSiteOf};
+ghost use Rattle.crystal.specs.Cells.{IsCellWithinLimits, IsSiteOf};
 
 use crate::atom::Atom;
 use crate::metric::Metric;
@@ -21,8 +22,8 @@ use std::marker::Model;
 /// A cell of a magnetic crystal: its metric tensor in units of 1/scale, the names of its species, and its atoms.
 ///
 /// The metric tensor is positive, with entries of size up to 10^16, and the scale is from 1 to 10^16. Positions are in
-/// units of 1/n, moments in units of 1/k, n and k from 1 to 10^6. All moments are of one kind. There are 1 to 512 atoms, no
-/// two at one position.
+/// units of 1/n, moments in units of 1/k, n and k from 1 to 10^6. All moments are of one kind. There are up to 512 names,
+/// and 1 to 512 atoms, no two at one position.
 #[derive(Drop)]
 pub struct Cell {
     names: Vec<Name>,
@@ -101,7 +102,7 @@ impl Cell {
         })
     }
 
-    /// Adds the name of a further species, and gives its number.
+    /// Adds the name of a further species, up to 512 names, and gives its number.
     ///
     /// Refuses for want of memory alone, and then leaves the cell as it was.
     pub fn add_name(&mut self, name: Name) -> Result<u16, AllocError>
@@ -168,12 +169,13 @@ impl Cell {
     /// How many atoms the cell has, 1 to 512.
     pub fn count(&self) -> usize
         ensures value { result ≡ length self.now.sites }
-        ensures form { IsCell self.now }
+        ensures cell { IsCell self.now }
+        ensures form { IsCellWithinLimits self.now }
     {
         self.atoms.len()
     }
 
-    /// How many species have a name.
+    /// How many species have a name, up to 512.
     pub fn names(&self) -> usize
         ensures { result ≡ length self.now.names }
     {

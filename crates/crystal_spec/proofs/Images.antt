@@ -11,6 +11,7 @@ use Rattle.crystal_spec.specs.Increasing.{IsMember, IsDistinct}
 use Rattle.crystal_spec.specs.Matrices.{Matrix, Triple, determinant, adjugate, image, multiple, sum_of, difference}
 use Rattle.crystal_spec.specs.Crystals.{Site, Structure, IsPositive, Occupied, KeepsMetric, Keeps, position_after, moment_after}
 use Rattle.crystal_spec.specs.Operations.{IsWithinCell}
+use Rattle.crystal_spec.specs.Cells.{HasOneAtomEach}
 use Rattle.crystal_spec.proofs.Entrywise.{triple_same}
 use Rattle.crystal_spec.proofs.Identities.{by_triples}
 use Rattle.crystal_spec.proofs.Isometries.{determinant-isometry}
@@ -39,6 +40,10 @@ same_within n p q k a b e = triple_same
     (same_remainder n p.x q.x k.x a.x.0 a.x.1 b.x.0 b.x.1 (ap (λ (v : Triple). v.x) e))
     (same_remainder n p.y q.y k.y a.y.0 a.y.1 b.y.0 b.y.1 (ap (λ (v : Triple). v.y) e))
     (same_remainder n p.z q.z k.z a.z.0 a.z.1 b.z.0 b.z.1 (ap (λ (v : Triple). v.z) e))
+
+-- so atoms within the cell and apart are one at each position
+pub one_atom_each_of_apart : (c : Structure) → IsApart c → HasOneAtomEach c
+one_atom_each_of_apart c h a b m k d = h.told a b m k (same_within c.n a.position b.position d.cells (h.within a m) (h.within b k) d.is)
 
 taken_off : (a : Triple) (n : ℤ) (l : Triple) → a ≡ sum_of (sum_of a (multiple n l)) (multiple n (multiple (negsuc 0) l))
 taken_off a n l =

@@ -10,15 +10,13 @@ use Rattle.std.proofs.lemmas.Int.{ints, unsigned_abs-mul}
 use Rattle.std.proofs.lemmas.List.{map_push}
 use Rattle.ring.specs.Ring.{var, ◌:*◌}
 use Rattle.ring.specs.Size.{AtMost}
-use Rattle.crystal_spec.specs.Matrices.{Triple, Matrix, product, image, determinant, adjugate, identity, multiple, sum_of}
+use Rattle.crystal_spec.specs.Matrices.{Triple, Matrix, product, image, determinant, adjugate, identity, transposed, multiple, sum_of}
 use Rattle.crystal_spec.specs.Crystals.{Structure, KeepsMetric}
 use Rattle.crystal_spec.specs.Increasing.{IsMember}
 use Rattle.crystal_spec.specs.Operations.{Operation, IsWithinCell, IsSymmetryOperation, ListsAll, ListsAllSame}
-use Rattle.crystal_spec.proofs.Entrywise.{matrix_same}
 use Rattle.crystal_spec.proofs.Identities.{by_integers}
 use Rattle.lattice_spec.specs.Niggli.{IsNiggli}
 use Rattle.crystal.specs.Bounds.{EntriesAtMost, CoordinatesAtMost}
-use Rattle.crystal.specs.Cells.{IsSymmetric}
 use Rattle.lattice_iso.specs.Columns.{AnyOf}
 use Rattle.lattice_iso.proofs.ByColumns.{entries_of_short}
 use Rattle.lattice_iso.proofs.Members.{IsMember-pushed, any_all, only_left}
@@ -283,6 +281,5 @@ symmetry_of_group c os (inl all) o m = (all.exact o).0 m
 symmetry_of_group c os (inr same) o m = ((same.exact o).0 m).0
 
 -- an isometry of a Niggli-reduced metric tensor has entries -1, 0 and 1
-pub reduced_isometry_small : (g w : Matrix) → IsNiggli g → IsSymmetric g → KeepsMetric g w → EntriesAtMost 1 w
-reduced_isometry_small g w niggli symmetric keeps =
-    entries_of_short g w (matrix_same refl symmetric.ab symmetric.ac (sym symmetric.ab) refl symmetric.bc (sym symmetric.ac) (sym symmetric.bc) refl) niggli.main keeps
+pub reduced_isometry_small : (g w : Matrix) → IsNiggli g → transposed g ≡ g → KeepsMetric g w → EntriesAtMost 1 w
+reduced_isometry_small g w niggli symmetric keeps = entries_of_short g w symmetric niggli.main keeps

@@ -6,11 +6,11 @@ use Rattle.crystal_spec.specs.declared.Sign.TheVariants.{Same, Reversed}
 use Rattle.crystal_spec.specs.Matrices.{Matrix, Triple}
 use Rattle.crystal_spec.specs.Crystals.{Structure}
 use Rattle.crystal_spec.specs.Operations.{Operation, sign_factor, ListsAllSame}
+use Rattle.crystal_spec.specs.Cells.{IsCell}
 use Rattle.crystal_spec.proofs.Images.{occupied_itself}
 use Rattle.crystal_spec.proofs.Isometries.{sign_squared}
 use Rattle.basis_spec.specs.Positions.{residue}
 use Rattle.basis_spec.specs.Translations.{IsPrimitive}
-use Rattle.basis_spec.specs.Bases as bases
 use Rattle.basis_spec.specs.Carrying.{KeepsAny, IsListed}
 use Rattle.basis_spec.proofs.Residues.{residue_away, residue_within}
 use Rattle.basis_spec.proofs.PrimitiveCell.{differs_sym, cells_alone}
@@ -20,7 +20,7 @@ use Rattle.basis_spec.proofs.AllOperations.{full_group_misses_nothing}
 use Rattle.mag_ops.specs.Groups.{ListsGroup, IsWanted}
 
 -- of the list without time reversal
-same_misses_nothing : (c : Structure) (os : List Operation) → bases.IsCell c → IsPrimitive c → ListsAllSame c os → (b : Matrix) (t : Triple) (d : ℕ) → KeepsAny c b t d (pos 1) → IsListed c.n os b t d Same
+same_misses_nothing : (c : Structure) (os : List Operation) → IsCell c → IsPrimitive c → ListsAllSame c os → (b : Matrix) (t : Triple) (d : ℕ) → KeepsAny c b t d (pos 1) → IsListed c.n os b t d Same
 same_misses_nothing c os cell primitive a b t d k =
     let w = whole c b t d (pos 1) k cell.first.species cell.first.position cell.first.moment (occupied_itself c cell.first cell.of_cell) cell.some_cells (cells_alone c cell.some_cells primitive) cell.positive (sign_squared Same) in
     record {
@@ -38,7 +38,7 @@ same_misses_nothing c os cell primitive a b t d k =
     }
 
 -- of either list
-pub misses_nothing : (c : Structure) (time : Bool) (os : List Operation) → bases.IsCell c → IsPrimitive c → ListsGroup c time os →
+pub misses_nothing : (c : Structure) (time : Bool) (os : List Operation) → IsCell c → IsPrimitive c → ListsGroup c time os →
     (b : Matrix) (t : Triple) (d : ℕ) (sign : Sign) → IsWanted time sign → KeepsAny c b t d (sign_factor sign) → IsListed c.n os b t d sign
 misses_nothing c true os cell primitive a b t d sign wanted k = full_group_misses_nothing c os cell primitive a b t d sign k
 misses_nothing c false os cell primitive a b t d Same wanted k = same_misses_nothing c os cell primitive a b t d k

@@ -7,9 +7,10 @@ ghost use Rattle.crystal_spec.specs.Matrices.{Triple, Matrix, product, image, mu
 ghost use Rattle.crystal_spec.specs.Crystals.{Structure};
 ghost use Rattle.crystal_spec.specs.Increasing.{IsMember};
 ghost use Rattle.crystal_spec.specs.Operations.{Operation, IsWithinCell, ListsAll, ListsAllSame};
+ghost use Rattle.crystal_spec.specs.Cells.{IsCell};
 ghost use Rattle.crystal.specs.Bounds.{EntriesAtMost, CoordinatesAtMost};
 ghost use Rattle.basis_spec.specs.Positions.{residue};
-ghost use Rattle.basis_spec.specs.Bases.{IsCell, IsPrimitiveIn, cell_in_basis};
+ghost use Rattle.basis_spec.specs.Bases.{IsPrimitiveIn, cell_in_basis};
 ghost use Rattle.basis_spec.specs.Carrying.{IsCarried};
 ghost use Rattle.lattice_iso.specs.Columns.{of_columns};
 ghost use Rattle.op_group.specs.Views.{operation_of, translation_of};

@@ -5,8 +5,8 @@ use Rattle.std.specs.Prelude.{pos, ◌<ℤ◌}
 use Rattle.std.proofs.lemmas.Int.{ints}
 use Rattle.crystal_spec.specs.Crystals.{Structure}
 use Rattle.crystal_spec.specs.Operations.{Operation, ListsAll, ListsAllSame}
+use Rattle.crystal_spec.specs.Cells.{IsCell}
 use Rattle.basis_spec.specs.Translations.{pure_translation, IsPrimitive}
-use Rattle.basis_spec.specs.Bases.{IsCell}
 use Rattle.op_group.specs.Groups.{IsGroupModulo}
 use Rattle.op_group.proofs.GroupLaws as laws
 use Rattle.mag_type.specs.MagneticTypes.{HasOnlyZeroTranslation}

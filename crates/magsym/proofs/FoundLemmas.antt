@@ -4,11 +4,12 @@ use Rattle.std.specs.Prelude.{IfOk}
 use Rattle.std.specs.declared.result.Result.{Result}
 use Rattle.std.specs.declared.result.Result.TheVariants.{Ok, Err}
 use Rattle.crystal_spec.specs.Matrices.{determinant}
+use Rattle.crystal_spec.specs.Cells.{IsCell}
 use Rattle.crystal_spec.specs.Crystals.{Structure}
 use Rattle.crystal_spec.specs.Operations.{Operation, ListsAll}
 use Rattle.lattice_spec.specs.Niggli.{IsNiggli}
 use Rattle.basis_spec.specs.Translations.{IsPrimitive, ListsPureTranslations}
-use Rattle.basis_spec.specs.Bases.{IsCell, cell_in_basis, IsPrimitiveIn}
+use Rattle.basis_spec.specs.Bases.{cell_in_basis, IsPrimitiveIn}
 use Rattle.basis_spec.proofs.PrimitiveBases.{cell_in_basis_is_cell}
 use Rattle.op_group.specs.Groups.{IsGroupModulo}
 use Rattle.op_group.specs.Lists.{OperationList}

@@ -10,9 +10,10 @@ use Rattle.crystal_spec.specs.Matrices.{Triple, Matrix, image}
 use Rattle.crystal_spec.specs.Crystals.{Site, Structure}
 use Rattle.crystal_spec.specs.Increasing.{IsMember, IsIncreasing}
 use Rattle.crystal_spec.specs.Operations.{Operation, compare_of, ListsAll}
+use Rattle.crystal_spec.specs.Cells.{IsCell}
 use Rattle.crystal_spec.proofs.Ordered.{compare_total, increasing_unique}
 use Rattle.basis_spec.specs.Translations.{ListsPureTranslations}
-use Rattle.basis_spec.specs.Bases.{IsCell, cell_in_basis}
+use Rattle.basis_spec.specs.Bases.{cell_in_basis}
 use Rattle.basis_spec.proofs.Candidates.{same_natural}
 use Rattle.basis_spec.proofs.PrimitiveBases.{cell_in_basis_is_cell}
 use Rattle.mag_type.specs.declared.classification.Kind.{Kind}

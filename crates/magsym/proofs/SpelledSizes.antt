@@ -1,17 +1,14 @@
 -- The sizes of a cell that a cell file spells. No line breaks a rule, so behind each line the metric tensors that were given
--- have scales and entries up to 10^9, and the moments have sizes up to 10^9 in units of 1/k. There are no more names than
--- atoms.
-use Rattle.std.proofs.Common.{◌≡◌, ℕ, ◌^◌, ◌≤◌, Bool, true, false, List, [], ◌∷◌, ◌++◌, length, map, get_or, None, inl, inr, refl, sym, ap, subst, ◌∙◌, arith, append-nil}
+-- have scales and entries up to 10^9, and the moments have sizes up to 10^9 in units of 1/k.
+use Rattle.std.proofs.Common.{◌≡◌, ℕ, ◌^◌, ◌≤◌, Bool, true, false, List, [], ◌∷◌, ◌++◌, map, get_or, None, inl, inr, refl, sym, ap, subst, ◌∙◌, arith, append-nil}
 use Rattle.std.specs.Prelude.{pos, nat_le}
 use Rattle.std.specs.List.{list_all}
 use Rattle.std.proofs.lemmas.Bool.{leb-true, and_parts}
 use Rattle.std.proofs.lemmas.Int.{ints}
-use Rattle.std.proofs.lemmas.List.{length-map}
 use Rattle.ring.specs.Size.{AtMost}
 use Rattle.crystal_spec.specs.Crystals.{Site, Structure}
 use Rattle.crystal_spec.specs.Increasing.{IsMember}
 use Rattle.crystal.specs.Bounds.{EntriesAtMost, CoordinatesAtMost}
-use Rattle.crystal.specs.Cells.{IsCell}
 use Rattle.cell_text.specs.Text.{lines}
 use Rattle.cell_text.specs.Numbers.{Fraction, common_denominator, scaled}
 use Rattle.cell_text.specs.Lines.{is_metric_line, is_atom_line}
@@ -21,7 +18,6 @@ use Rattle.cell_text.specs.Views.{with_line}
 use Rattle.cell_text.specs.CellFile.{Spells, cell_with, names_of, site_of, no_metric}
 use Rattle.cell_text.proofs.PassedLines.{metric_fits, moments_fit, text_holds}
 use Rattle.cell_text.proofs.MetricLines.{at_most, six}
-use Rattle.cell_text.proofs.NameLemmas.{names_at_most}
 use Rattle.prim_cell.specs.Sizes.{HasSizesOfRead}
 
 -- ---- what the contents are
@@ -117,19 +113,17 @@ moments_small : (xs : List AtomLine) → are_moments_in_range xs ≡ true → ar
 unfolding are_moments_in_range
 moments_small xs e = (and_parts (nat_le (common_denominator (moments xs)) 1000000) (are_small (common_denominator (moments xs)) xs) e).1
 
-contents_sizes : (held : Contents) → HoldsSmall held → IsCell (cell_with held) → HasSizesOfRead (cell_with held)
+contents_sizes : (held : Contents) → HoldsSmall held → HasSizesOfRead (cell_with held)
 unfolding cell_with
-contents_sizes held small cell =
+contents_sizes held small =
     let first = first_small held.metrics small.metrics in
-    let few : length held.atoms ≤ 512 = subst (λ (n : ℕ). n ≤ 512) (length-map held.atoms _) cell.few in
     record {
       scale = omega (arith, ints, first.0);
       metric = first.1;
       moments = sites_small (names_of held.atoms) _ (common_denominator (moments held.atoms)) held.atoms (moments_small held.atoms small.moments);
-      names = omega (arith, few, names_at_most held.atoms);
     }
 
 -- A cell that a text spells has the sizes of one that was read.
-pub spelled_sizes : (text : List ℕ) (c : Structure) → Spells text c → IsCell c → HasSizesOfRead c
-spelled_sizes text c spelled cell =
-    subst HasSizesOfRead (sym spelled.is) (contents_sizes (contents (lines text)) (text_small text spelled.faultless) (subst IsCell spelled.is cell))
+pub spelled_sizes : (text : List ℕ) (c : Structure) → Spells text c → HasSizesOfRead c
+spelled_sizes text c spelled =
+    subst HasSizesOfRead (sym spelled.is) (contents_sizes (contents (lines text)) (text_small text spelled.faultless))

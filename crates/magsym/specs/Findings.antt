@@ -5,11 +5,12 @@
 --   with_reversal command    whether the operations that reverse time are wanted for the report
 use Rattle.std.specs.Prelude.{◌≡◌, ℕ, pos, Bool, true, List, length}
 use Rattle.crystal_spec.specs.Matrices.{determinant}
+use Rattle.crystal_spec.specs.Cells.{IsCell}
 use Rattle.crystal_spec.specs.Crystals.{Structure}
 use Rattle.crystal_spec.specs.Operations.{Operation, ListsAll}
 use Rattle.lattice_spec.specs.Niggli.{IsNiggli}
 use Rattle.basis_spec.specs.Translations.{ListsPureTranslations}
-use Rattle.basis_spec.specs.Bases.{IsCell, cell_in_basis, IsPrimitiveIn}
+use Rattle.basis_spec.specs.Bases.{cell_in_basis, IsPrimitiveIn}
 use Rattle.op_group.specs.Lists.{OperationList}
 use Rattle.prim_cell.specs.Primitives.{PrimitiveCell}
 use Rattle.mag_ops.specs.Groups.{ListsGroup}

@@ -3,7 +3,7 @@
 ghost use Rattle.std.specs.Prelude.{◌≡◌, ◌⊎◌, Bool, true, IfOk};
 ghost use Rattle.crystal_spec.specs.Crystals.{Structure};
 ghost use Rattle.crystal_spec.specs.Operations.{ListsAll, ListsAllSame};
-ghost use Rattle.basis_spec.specs.Bases.{IsCell};
+ghost use Rattle.crystal_spec.specs.Cells.{IsCell};
 ghost use Rattle.magsym.specs.declared.command.Command.TheVariants.{Symmetry, Primitive, Dataset, Orbits};
 ghost use Rattle.magsym.specs.declared.status.Kept.TheVariants.{Back};
 ghost use Rattle.magsym.specs.Findings.{IsReducedPrimitive, IsFound, IsOrder, with_reversal};

@@ -9,7 +9,7 @@ use Rattle.crystal_spec.specs.Matrices.{Triple, difference}
 use Rattle.crystal_spec.specs.Crystals.{Site, Structure}
 use Rattle.crystal_spec.specs.Operations.{Operation, IsWithinCell, IsSymmetryOperation, compare_of}
 use Rattle.crystal_spec.proofs.Ordered.{IsMember-inserted, compare_exact}
-use Rattle.crystal.specs.Cells.{IsCell}
+use Rattle.crystal.specs.Cells.{IsCellWithinLimits}
 use Rattle.crystal.proofs.ImageLemmas.{member_at}
 use Rattle.basis_spec.specs.Positions.{residue}
 use Rattle.basis_spec.specs.Translations.{IsTranslation, pure_translation, ListsPureTranslations}
@@ -120,7 +120,7 @@ at_of_member (y ∷ ys) x (inl e) = record { number = 0; at = ap (λ (z : Site).
 at_of_member (y ∷ ys) x (inr m) = let k = at_of_member ys x m in record { number = suc k.number; at = k.at }
 
 -- all atoms are seen: exactly the pure translations
-pub found_all : (c : Structure) (a : ℕ) (from : Site) (os : List Operation) → IsCell c → slice_get c.sites a ≡ Some from → IsIncreasing compare_of os → ((o : Operation) → IsMember o os ↔ IsFromAtoms c a (length c.sites) o) → ListsPureTranslations c os
+pub found_all : (c : Structure) (a : ℕ) (from : Site) (os : List Operation) → IsCellWithinLimits c → slice_get c.sites a ≡ Some from → IsIncreasing compare_of os → ((o : Operation) → IsMember o os ↔ IsFromAtoms c a (length c.sites) o) → ListsPureTranslations c os
 found_all c a from os cell is_from increasing found = record {
   increasing = increasing;
   exact = λ o. ((λ m. let f = (found o).0 m in forth o f.number f.onto), (λ h. (found o).1 (back o h.0 h.1)));

@@ -3,6 +3,6 @@ pub mod Found
 pub mod Folding
 pub mod Making
 pub mod Ranges
-pub mod Cells
+pub mod FewTranslations
 pub mod ReducedBases
 pub mod Numbering

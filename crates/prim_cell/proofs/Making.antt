@@ -10,7 +10,7 @@ use Rattle.crystal_spec.specs.Crystals.{Site, Structure}
 use Rattle.crystal_spec.specs.Operations.{IsWithinCell}
 use Rattle.crystal_spec.proofs.Moments.{turn-of_kind}
 use Rattle.crystal.specs.Bounds.{CoordinatesAtMost}
-use Rattle.crystal.specs.Cells.{IsCell, IsSiteOf}
+use Rattle.crystal.specs.Cells.{IsCellWithinLimits, IsSiteOf}
 use Rattle.basis_spec.specs.Metrics.{metric_in}
 use Rattle.basis_spec.specs.Bases.{cell_in_basis, first_at_each_position, site_in_basis}
 use Rattle.basis_spec.proofs.Residues.{residue_within}
@@ -74,7 +74,7 @@ few_so_far f sites i h k =
 
 -- ---- the cell
 -- an atom in the other basis is one of the cell
-pub site_rebased : (c : Structure) → IsCell c → (m : ℕ) → m ≡ c.n → (r : Matrix) (a b : Site) → IsSiteOf (length c.names) c.n c.kind a → b ≡ site_in_basis m c.kind r a → CoordinatesAtMost (2 * 10 ^ 27) b.moment → IsSiteOf (length c.names) c.n c.kind b
+pub site_rebased : (c : Structure) → IsCellWithinLimits c → (m : ℕ) → m ≡ c.n → (r : Matrix) (a b : Site) → IsSiteOf (length c.names) c.n c.kind a → b ≡ site_in_basis m c.kind r a → CoordinatesAtMost (2 * 10 ^ 27) b.moment → IsSiteOf (length c.names) c.n c.kind b
 site_rebased c cell m same r a b h e k = record {
   named = subst (λ (s : ℕ). s < length c.names) (sym (ap (λ (x : Site). x.species) e)) h.named;
   within = subst (λ (x : Site). IsWithinCell c.n x.position) (sym (e ∙ ap (λ (n : ℕ). site_in_basis n c.kind r a) same)) (residue_within c.n (image r a.position) (some_cells c cell));

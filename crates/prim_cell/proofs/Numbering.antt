@@ -6,9 +6,10 @@ use Rattle.std.proofs.Common.{◌≡◌, ℕ, suc, ◌<◌, ◌≤◌, Bool, tru
 use Rattle.crystal_spec.specs.Matrices.{Triple, Matrix, image}
 use Rattle.crystal_spec.specs.Crystals.{Site, Structure}
 use Rattle.crystal_spec.specs.Increasing.{IsMember}
+use Rattle.crystal_spec.specs.Cells.{DiffersByCells}
 use Rattle.crystal_spec.proofs.Images.{occupied_itself}
 use Rattle.crystal.specs.Numbering.{AreByFirstUse}
-use Rattle.basis_spec.specs.Positions.{DiffersByCells, residue}
+use Rattle.basis_spec.specs.Positions.{residue}
 use Rattle.basis_spec.specs.Bases.{SameCrystal, is_same_position, without_position, first_at_each_position, site_in_basis, cell_in_basis}
 use Rattle.basis_spec.proofs.Residues.{residue_away}
 use Rattle.basis_spec.proofs.Translations.{site_away}

@@ -2,35 +2,36 @@
 --
 -- The triangular basis and after it the change of basis of the reduction are a basis of all translations. Where the metric
 -- tensor of the triangular basis is reduced already the reduction changes nothing; and there is one triangular basis.
-use Rattle.std.proofs.Common.{◌≡◌, ℕ, ◌*◌, ◌≤◌, ◌^◌, ℤ, pos, ◌*ℤ◌, ◌≤ℤ◌, ◌<ℤ◌, List, [], ◌∷◌, refl, sym, ap, subst, ◌∙◌, arith}
+use Rattle.std.proofs.Common.{◌≡◌, ℕ, ◌*◌, ◌≤◌, ◌^◌, ℤ, pos, ◌*ℤ◌, ◌≤ℤ◌, ◌<ℤ◌, List, [], ◌∷◌, length, map, refl, sym, ap, subst, ◌∙◌, arith}
 use Rattle.std.proofs.lemmas.Int.{ints}
 use Rattle.ring.specs.Ring.{var, con, ◌:*◌}
 use Rattle.crystal_spec.specs.Matrices.{Matrix, product, transposed, determinant, adjugate, identity}
-use Rattle.crystal_spec.specs.Crystals.{Structure, IsPositive}
+use Rattle.crystal_spec.specs.Crystals.{Site, Structure, IsPositive}
+use Rattle.crystal_spec.specs.Increasing.{IsMember}
 use Rattle.crystal_spec.specs.Operations.{Operation}
+use Rattle.crystal_spec.specs.Cells.{IsCell}
 use Rattle.crystal_spec.proofs.Entrywise.{matrix_same}
 use Rattle.crystal_spec.proofs.Identities.{by_integers}
 use Rattle.crystal_spec.proofs.Isometries.{determinant-product}
 use Rattle.lattice_spec.specs.Tensor.{Tensor, tensor_matrix}
 use Rattle.lattice_spec.specs.Niggli.{IsNiggli}
 use Rattle.crystal.specs.Bounds.{EntriesAtMost}
-use Rattle.crystal.specs.Cells.{IsCell}
 use Rattle.op_group.specs.Lists.{OperationList}
 use Rattle.basis_spec.specs.Metrics.{matrix_multiple, metric_in}
 use Rattle.basis_spec.specs.Translations.{IsPrimitive, ListsPureTranslations}
-use Rattle.basis_spec.specs.Bases.{IsBack, cell_in_basis}
+use Rattle.basis_spec.specs.Bases.{IsBack, cell_in_basis, site_in_basis}
 use Rattle.basis_spec.specs.StepBases.{IsSteps, InLattice}
 use Rattle.basis_spec.proofs.MatrixLaws.{metric_in-product, metric_in-metric_in_adjugate, image-product, image-identity, same_images}
 use Rattle.basis_spec.proofs.OperationBases.{at_least_one}
 use Rattle.basis_spec.proofs.Positive.{positive_adjugate}
+use Rattle.basis_spec.proofs.FirstAtoms.{member_of_firsts, mapped_from}
 use Rattle.basis_spec.proofs.StepLists.{list_lattice}
 use Rattle.basis_spec.proofs.StepEntries.{fore_is_adjugate}
 use Rattle.basis_spec.proofs.Candidates.{steps_once}
 use Rattle.basis_spec.proofs.TranslationLists.{pure_closed}
 use Rattle.basis_spec.proofs.PrimitiveBases.{primitive_kept, fore_then}
-use Rattle.prim_cell.specs.Primitives.{TakesToStepBasis, IsPrimitiveCell, IsReducedBasis}
-use Rattle.prim_cell.proofs.Moving.{some_cells}
-use Rattle.prim_cell.proofs.Cells.{is_cell, few_pure}
+use Rattle.prim_cell.specs.Primitives.{TakesToStepBasis, IsImageModulo, IsPrimitiveCell, IsReducedBasis}
+use Rattle.prim_cell.proofs.FewTranslations.{few_pure}
 use Rattle.prim_cell.proofs.Ranges.{back_small, fore_small}
 
 -- what a reduction gives of the metric tensor g: the metric tensor m, the change of basis and its inverse
@@ -54,12 +55,12 @@ determinant_inverse base q one e =
 at_least : (i : ℕ) (d : ℤ) → pos i ≡ d → pos 1 ≤ℤ d → 1 ≤ i
 at_least i d e h = omega (arith, ints, e, h)
 
-module _ (c : Structure) (cell : IsCell c) (os : List Operation) (lists : ListsPureTranslations c os) (index : ℕ) (back fore : Matrix) (steps : IsSteps c.n (InLattice c.n os) index back fore)
+module _ (c : Structure) (cell : IsCell c) (few : length c.sites ≤ 512) (os : List Operation) (lists : ListsPureTranslations c os) (index : ℕ) (back fore : Matrix) (steps : IsSteps c.n (InLattice c.n os) index back fore)
     (s : Tensor ℤ) (base q : Matrix) (reduction : IsReduction (metric_in fore c.metric) (tensor_matrix s) base q) (small : EntriesAtMost (10 ^ 9) c.metric) where
   -- where the metric tensor is reduced already, the basis is the triangular one
   kept : TakesToStepBasis c os (product q back)
   kept i b f k niggli =
-      let same = steps_once c.n (InLattice c.n os) (list_lattice c.n os (some_cells c cell) (pure_closed c os lists (some_cells c cell))) (some_cells c cell) index i back b fore f steps k in
+      let same = steps_once c.n (InLattice c.n os) (list_lattice c.n os cell.some_cells (pure_closed c os lists cell.some_cells)) cell.some_cells index i back b fore f steps k in
       let base_is = reduction.kept (subst (λ (m : Matrix). IsNiggli (metric_in m c.metric)) (sym same.fore) niggli) in
       let q_is : q ≡ identity = sym (identity-product q) ∙ ap (λ (m : Matrix). product m q) (sym base_is) ∙ reduction.inverse in
       ap (λ (m : Matrix). product m back) q_is ∙ identity-product back ∙ same.back
@@ -68,13 +69,13 @@ module _ (c : Structure) (cell : IsCell c) (os : List Operation) (lists : ListsP
   pub reduced_basis : IsReducedBasis c os index (product q back) (product fore base) (tensor_matrix s)
   reduced_basis =
       let r = product q back in
-      let p = primitive_kept c (is_cell c cell) os lists index back fore steps base q (determinant_inverse base q reduction.unit_determinant reduction.inverse_left) reduction.inverse in
+      let p = primitive_kept c cell os lists index back fore steps base q (determinant_inverse base q reduction.unit_determinant reduction.inverse_left) reduction.inverse in
       let up = p.primitive.same.determinant_positive in
       let above : pos 0 <ℤ determinant r = at_least_one (determinant r) up in
       let inverse = fore_then (pos index) fore back base q steps.fore_is reduction.inverse in
       let fore_is : product fore base ≡ adjugate r = fore_is_adjugate index (product fore base) r above p.index_is inverse in
       let metric_is : tensor_matrix s ≡ metric_in (adjugate r) c.metric = sym reduction.metric ∙ sym (metric_in-product fore base c.metric) ∙ ap (λ (m : Matrix). metric_in m c.metric) fore_is in
-      let most : index ≤ 512 = subst (λ (n : ℕ). n ≤ 512) p.count (few_pure c cell os lists) in
+      let most : index ≤ 512 = subst (λ (n : ℕ). n ≤ 512) p.count (few_pure c cell few os lists) in
       let turned : metric_in r (tensor_matrix s) ≡ matrix_multiple (pos index *ℤ pos index) c.metric = ap (metric_in r) metric_is ∙ metric_in-metric_in_adjugate r c.metric ∙ ap (λ (d : ℤ). matrix_multiple (d *ℤ d) c.metric) (sym p.index_is) in
       let entries = back_small s c.metric r index reduction.niggli.main turned most small in
       record {
@@ -86,7 +87,7 @@ module _ (c : Structure) (cell : IsCell c) (os : List Operation) (lists : ListsP
         fore_is = fore_is;
         metric_is = metric_is;
         niggli = reduction.niggli;
-        positive = subst IsPositive (sym metric_is) (positive_adjugate r c.metric (is_cell c cell).symmetric cell.positive above);
+        positive = subst IsPositive (sym metric_is) (positive_adjugate r c.metric cell.symmetric cell.positive above);
         kept = kept;
         metric_entries = reduction.entries;
         back_entries = entries;
@@ -95,11 +96,18 @@ module _ (c : Structure) (cell : IsCell c) (os : List Operation) (lists : ListsP
         at_most = most;
       }
 
+-- an atom of the cell in another basis is at the image of a position of an atom of the cell
+position_image : (c : Structure) (r : Matrix) (a : Site) → IsMember a (cell_in_basis c r).sites → IsImageModulo c.n r a.position
+unfolding cell_in_basis
+position_image c r a m =
+    let f = mapped_from (site_in_basis c.n c.kind r) a c.sites (member_of_firsts a (map (site_in_basis c.n c.kind r) c.sites) m) in
+    record { old_position = f.item.position; position_is = ap (λ (s : Site). s.position) f.is }
+
 -- the cell in it is a primitive cell
-pub is_primitive_cell : (c made : Structure) (shifts : OperationList) (index : ℕ) (back fore metric : Matrix) → shifts.n ≡ c.n → ListsPureTranslations c shifts.operations → IsReducedBasis c shifts.operations index back fore metric → made ≡ cell_in_basis c back →
+pub is_primitive_cell : (c made : Structure) → IsCell c → EntriesAtMost (10 ^ 9) c.metric → (shifts : OperationList) (index : ℕ) (back fore metric : Matrix) → shifts.n ≡ c.n → ListsPureTranslations c shifts.operations → IsReducedBasis c shifts.operations index back fore metric → made ≡ cell_in_basis c back →
     IsPrimitiveCell (record { cell = made; back = back; fore = fore; index = index; shifts = shifts })
 unfolding cell_in_basis
-is_primitive_cell c made shifts index back fore metric same lists b is = record {
+is_primitive_cell c made cell small shifts index back fore metric same lists b is = record {
   determinant_is = b.determinant_is;
   inverse = b.inverse;
   lattice = subst (λ (n : ℕ). IsBack n (InLattice n shifts.operations) back) (sym same) b.lattice;
@@ -109,6 +117,14 @@ is_primitive_cell c made shifts index back fore metric same lists b is = record 
   niggli = subst IsNiggli (b.metric_is ∙ sym (ap (λ (s : Structure). s.metric) is)) b.niggli;
   back_entries = b.back_entries;
   fore_entries = b.fore_entries;
+  positions = λ a m. subst (λ (n : ℕ). IsImageModulo n back a.position) (sym (ap (λ (s : Structure). s.n) is)) (position_image c back a (subst (λ (s : Structure). IsMember a s.sites) is m));
+  metric = record {
+    old_metric = c.metric;
+    symmetric = cell.symmetric;
+    positive = cell.positive;
+    entries = small;
+    metric_is = ap (λ (s : Structure). metric_in back s.metric) is ∙ metric_in-metric_in_adjugate back c.metric ∙ ap (λ (d : ℤ). matrix_multiple (d *ℤ d) c.metric) (sym b.determinant_is);
+  };
 }
 
 -- the metric tensor of that cell is reduced
@@ -123,11 +139,11 @@ six_entries m e = matrix_same refl refl refl (ap (λ (a : Matrix). a.a21) e) ref
 module _ (c : Structure) (cell : IsCell c) (os : List Operation) (lists : ListsPureTranslations c os) (index : ℕ) (back fore : Matrix) (steps : IsSteps c.n (InLattice c.n os) index back fore) where
   step_up : pos 1 ≤ℤ determinant back
   step_up =
-      let p = primitive_kept c (is_cell c cell) os lists index back fore steps identity identity refl (identity-product identity) in
+      let p = primitive_kept c cell os lists index back fore steps identity identity refl (identity-product identity) in
       subst (λ (m : Matrix). pos 1 ≤ℤ determinant m) (identity-product back) p.primitive.same.determinant_positive
 
   -- the metric tensor in the triangular basis is positive
   pub step_metric_positive : pos index ≡ determinant back → IsPositive (metric_in fore c.metric)
   step_metric_positive e =
       let above = at_least_one (determinant back) step_up in
-      subst (λ (m : Matrix). IsPositive (metric_in m c.metric)) (sym (fore_is_adjugate index fore back above e steps.fore_is)) (positive_adjugate back c.metric (is_cell c cell).symmetric cell.positive above)
+      subst (λ (m : Matrix). IsPositive (metric_in m c.metric)) (sym (fore_is_adjugate index fore back above e steps.fore_is)) (positive_adjugate back c.metric cell.symmetric cell.positive above)

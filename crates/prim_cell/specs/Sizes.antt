@@ -1,7 +1,7 @@
 -- Sizes of what a cell holds.
 --   HasMomentsAtMost bound c   the moments of the atoms have coordinates of size at most this
 --   HasSizesOfRead c           the sizes that every cell has which was read
-use Rattle.std.specs.Prelude.{ℕ, pos, ◌^◌, ◌≤◌, ◌≤ℤ◌, length}
+use Rattle.std.specs.Prelude.{ℕ, pos, ◌^◌, ◌≤ℤ◌}
 use Rattle.crystal_spec.specs.Crystals.{Site, Structure}
 use Rattle.crystal_spec.specs.Increasing.{IsMember}
 use Rattle.crystal.specs.Bounds.{EntriesAtMost, CoordinatesAtMost}
@@ -10,9 +10,8 @@ use Rattle.crystal.specs.Bounds.{EntriesAtMost, CoordinatesAtMost}
 abbrev pub HasMomentsAtMost : ℕ → Structure → Type 0
 HasMomentsAtMost bound c = (a : Site) → IsMember a c.sites → CoordinatesAtMost bound a.moment
 
--- the scale, the entries of the metric tensor and the moments have size at most 10^9, and there are at most 512 names
+-- the scale, the entries of the metric tensor and the moments have size at most 10^9
 pub record HasSizesOfRead (c : Structure) : Type 0 where
   pub scale : c.scale ≤ℤ pos (10 ^ 9)
   pub metric : EntriesAtMost (10 ^ 9) c.metric
   pub moments : HasMomentsAtMost (10 ^ 9) c
-  pub names : length c.names ≤ 512

@@ -10,6 +10,9 @@ use op_group::OpList;
 use std::marker::Model;
 
 /// A primitive cell of a crystal, in a Niggli-reduced basis, and how it lies in the cell that it was made of.
+///
+/// Each atom has a position Q p modulo n, where p is a triple of integers. With G' the metric tensor of the primitive cell,
+/// Qᵀ G' Q is the square of the index times a positive metric tensor of integers of size up to 10^9.
 #[derive(Drop)]
 pub struct Primitive {
     cell: Cell,

@@ -176,7 +176,6 @@ pub(crate) fn rebased(
     requires entries { EntriesAtMost (10 ^ 16) (metric_of metric) }
     requires scale { cell.now.scale ≤ℤ pos (10 ^ 9) }
     requires moments { HasMomentsAtMost (10 ^ 9) cell.now }
-    requires names { length cell.now.names ≤ 512 }
     ensures { IfOk result (λ made. made ≡ cell_in_basis cell.now r.now) }
 {
     let _form = cell.count();

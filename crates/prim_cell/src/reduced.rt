@@ -22,7 +22,7 @@ use std::alloc::{AllocError, Global};
 /// Where the triangular basis of the pure translations has a reduced metric tensor it is that basis. Of atoms at one position
 /// in the primitive cell the first is kept, so that species numbered by first use stay so. The index is the number of pure
 /// translations. Asks for the sizes of a cell that was read: scale, entries of the metric tensor
-/// and moments in units of 1/k up to 10^9, and no more than 512 names. Refuses for want of memory alone.
+/// and moments in units of 1/k up to 10^9. Refuses for want of memory alone.
 pub fn primitive(alloc: Global, cell: &Cell) -> Result<Primitive, AllocError>
     requires sizes { HasSizesOfRead cell.now }
     ensures shifts { IfOk result (λ p. ListsPureTranslations cell.now p.shifts.operations) }

@@ -7,8 +7,9 @@ use Rattle.crystal_spec.specs.Matrices.{Triple, image}
 use Rattle.crystal_spec.specs.Crystals.{position_after}
 use Rattle.crystal_spec.specs.Increasing.{IsMember}
 use Rattle.crystal_spec.specs.Operations.{Operation, IsWithinCell}
+use Rattle.crystal_spec.specs.Cells.{DiffersByCells}
 use Rattle.crystal_spec.proofs.Keeping.{carried_cells}
-use Rattle.basis_spec.specs.Positions.{DiffersByCells, residue}
+use Rattle.basis_spec.specs.Positions.{residue}
 use Rattle.basis_spec.proofs.FirstAtoms.{mapped_from, mapped_member}
 use Rattle.basis_spec.proofs.PrimitiveCell.{differs_sym, differs_trans, differs_at, differs_itself}
 use Rattle.basis_spec.proofs.PureTranslations.{translations_same, residues_same}

@@ -4,9 +4,10 @@ use Rattle.crystal_spec.specs.Matrices.{Triple, Matrix, image}
 use Rattle.crystal_spec.specs.Moments.{turn_matrix}
 use Rattle.crystal_spec.specs.Crystals.{Site, Structure, position_after}
 use Rattle.crystal_spec.specs.Operations.{Operation, ListsAll}
+use Rattle.crystal_spec.specs.Cells.{DiffersByCells, HasOneAtomEach}
 use Rattle.crystal_spec.proofs.Images.{occupied_itself}
-use Rattle.basis_spec.specs.Positions.{origin, DiffersByCells}
-use Rattle.basis_spec.specs.Bases.{HasOneAtomEach, SameCrystal}
+use Rattle.basis_spec.specs.Positions.{origin}
+use Rattle.basis_spec.specs.Bases.{SameCrystal}
 use Rattle.basis_spec.proofs.MatrixLaws.{sum_of-origin}
 use Rattle.basis_spec.proofs.PrimitiveCell.{differs_sym, differs_trans, differs_at, differs_itself}
 use Rattle.basis_spec.proofs.Translations.{position_translated}

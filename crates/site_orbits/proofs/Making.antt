@@ -8,13 +8,13 @@ use Rattle.crystal_spec.specs.Moments.{turn_matrix}
 use Rattle.crystal_spec.specs.Crystals.{Site, Structure}
 use Rattle.crystal_spec.specs.Increasing.{IsIncreasing, IsMember}
 use Rattle.crystal_spec.specs.Operations.{Operation, compare_of, ListsAll}
-use Rattle.crystal_spec.proofs.Images.{IsApart, occupied_itself}
-use Rattle.crystal.specs.Cells.{IsCell}
+use Rattle.crystal_spec.specs.Cells.{IsCell}
+use Rattle.crystal_spec.proofs.Images.{IsApart, occupied_itself, one_atom_each_of_apart}
+use Rattle.crystal.specs.Cells.{IsCellWithinLimits}
 use Rattle.crystal.proofs.CellLemmas.{apart_cell}
 use Rattle.crystal.proofs.ImageLemmas.{member_at}
 use Rattle.basis_spec.specs.Positions.{residue}
 use Rattle.basis_spec.specs.Bases.{SameCrystal}
-use Rattle.basis_spec.proofs.PrimitiveAtoms.{one_atom_each_of_apart}
 use Rattle.op_group.specs.Groups.{IsGroupModulo}
 use Rattle.op_group.proofs.GroupLaws.{group_of_all}
 use Rattle.site_orbits.specs.Orbits.{IsAlike, IsEquivalence, HasOneSpecies, ListsSite, CountsOrbit}
@@ -42,7 +42,7 @@ pub record IsFound (c : Structure) (r : Matrix) (b : Structure) (os : List Opera
   pub ordered : IsIncreasing compare_of o.site.operations
   pub exact : (u : Operation) → IsMember u o.site.operations ↔ (IsMember u os × (image_within m p u ≡ p))
 
-module _ (c b : Structure) (r : Matrix) (os : List Operation) (cell : IsCell c) (primitive : IsCell b) (same : SameCrystal c b r) (all : ListsAll b os) where
+module _ (c b : Structure) (r : Matrix) (os : List Operation) (cell : IsCell c) (primitive : IsCellWithinLimits b) (same : SameCrystal c b r) (all : ListsAll b os) where
   group : IsGroupModulo b.n os
   group = group_of_all b primitive.positive primitive.n_at_least os all
 
@@ -58,7 +58,7 @@ module _ (c b : Structure) (r : Matrix) (os : List Operation) (cell : IsCell c) 
 
   pub orbit_found : (i m : ℕ) (p : Triple) (qs : List Triple) (o : AtomOrbit) → m ≡ b.n → IsFound c r b os i m p qs o → IsOrbitAt c r b os i o
   orbit_found i m p qs o same_m found a at = record {
-    first = first_alike c r os a i o.first (positive_n c.n cell.n_at_least) (slice_get_within c.sites i a at) at (alike_equivalence.reflexive q) (subst (λ (l : List Triple). IsFirstAmong c.n r l c.sites i o.first) images_c found.first);
+    first = first_alike c r os a i o.first cell.some_cells (slice_get_within c.sites i a at) at (alike_equivalence.reflexive q) (subst (λ (l : List Triple). IsFirstAmong c.n r l c.sites i o.first) images_c found.first);
     size = counts;
     same_n = found.same_n ∙ same_m;
     site = lists;

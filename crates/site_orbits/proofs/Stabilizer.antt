@@ -10,9 +10,8 @@ use Rattle.crystal_spec.specs.Matrices.{Triple}
 use Rattle.crystal_spec.specs.Crystals.{Site, Structure, Occupied, position_after}
 use Rattle.crystal_spec.specs.Increasing.{IsMember, IsDistinct}
 use Rattle.crystal_spec.specs.Operations.{Operation, compare_of, ListsAll}
+use Rattle.crystal_spec.specs.Cells.{DiffersByCells, HasOneAtomEach}
 use Rattle.crystal_spec.proofs.Ordered.{compare_total}
-use Rattle.basis_spec.specs.Positions.{DiffersByCells}
-use Rattle.basis_spec.specs.Bases.{HasOneAtomEach}
 use Rattle.basis_spec.proofs.TranslationLists.{increasing_distinct}
 use Rattle.basis_spec.proofs.Counting.{length_le, mapped_once}
 use Rattle.basis_spec.proofs.FirstAtoms.{mapped_from, mapped_member}

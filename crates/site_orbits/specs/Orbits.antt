@@ -14,7 +14,7 @@ use Rattle.crystal_spec.specs.Matrices.{Triple, Matrix, image}
 use Rattle.crystal_spec.specs.Crystals.{Site, Structure, position_after}
 use Rattle.crystal_spec.specs.Increasing.{IsIncreasing, IsMember, IsDistinct}
 use Rattle.crystal_spec.specs.Operations.{Operation, compare_of}
-use Rattle.basis_spec.specs.Positions.{DiffersByCells}
+use Rattle.crystal_spec.specs.Cells.{DiffersByCells}
 
 -- W p + w differs from q by whole cells
 abbrev pub Carries : ℕ → Operation → Triple → Triple → Type 0

@@ -3,7 +3,7 @@ use Rattle.std.specs.Prelude.{◌↔◌}
 use Rattle.crystal_spec.specs.Crystals.{Structure}
 use Rattle.crystal_spec.specs.Increasing.{IsMember}
 use Rattle.crystal_spec.specs.Operations.{Operation, IsWithinCell}
-use Rattle.crystal.specs.Cells.{IsCell}
+use Rattle.crystal_spec.specs.Cells.{IsCell}
 use Rattle.basis_spec.specs.Carrying.{IsCarried}
 use Rattle.basis_spec.proofs.AllOperations.{in_cell_is_all, in_cell_is_all_same}
 use Rattle.lattice_iso.proofs.Members.{any_more, member_of_list}
@@ -14,7 +14,7 @@ use Rattle.mag_ops.proofs.carried.in_cell.Goals as goal
 
 pub add_carried-requires-clause-small : goal.add_carried-requires-clause-small
 add_carried-requires-clause-small c =
-    let cell = subst (λ (s : Structure). IsCell s) c.cell-cell.ensures c.count-form.ensures.form in
+    let cell = subst (λ (s : Structure). IsCell s) c.cell-cell.ensures c.count-form.ensures.cell in
     let v = operation_of c.op-item.result in
     let member = subst (IsMember v) c.ops-ops.ensures (member_mapped c.ops-ops.result.now c.op-item.result (member_of_list c.ops-ops.result.now c.loop-op.op-index c.op-item.result (omega arith) c.op-item.is)) in
     let symmetry = symmetry_of_group c.args.prim.now.cell c.args.list.now.operations c.requires.group v member in

@@ -1,10 +1,9 @@
 use Rattle.std.proofs.Common.{◌≡◌, ◌+◌, ◌*◌, ◌≤◌, List, length, subst, sym, ap, ◌∙◌}
 use Rattle.crystal_spec.specs.Matrices.{Matrix}
 use Rattle.crystal_spec.specs.Crystals.{Structure}
-use Rattle.crystal.specs.Cells.{IsCell}
+use Rattle.crystal_spec.specs.Cells.{IsCell}
 use Rattle.lattice_iso.specs.Isometries.{ListsIsometries}
 use Rattle.basis_spec.specs.Translations.{IsRarest}
-use Rattle.prim_cell.proofs.Cells.{is_cell}
 use Rattle.mag_ops.specs.Groups.{ListsGroup, signs}
 use Rattle.mag_ops.proofs.Counts.{isometries_once}
 use Rattle.mag_ops.proofs.NothingMissed.{if_ok_more, misses_nothing}
@@ -13,9 +12,9 @@ use Rattle.mag_ops.proofs.full.full_group.Goals as goal
 pub returns-clause-nothing_missed : goal.returns-clause-nothing_missed
 returns-clause-nothing_missed g c =
     let s = c.args.prim.now.cell in
-    let cell : IsCell s = subst IsCell c.cell-cell.ensures c.count-cell.ensures.form in
+    let cell : IsCell s = subst IsCell c.cell-cell.ensures c.count-cell.ensures.cell in
     let same : c.in_ok-places.places ≡ s = c.in_ok-places.ensures ∙ c.cell-cell.ensures in
-    if_ok_more c.all_kept.result (λ list h. misses_nothing s c.args.time list.operations (is_cell s cell) c.index-form.ensures.form.primitive (subst (λ (t : Structure). ListsGroup t c.args.time list.operations) same h)) c.all_kept.ensures.exact
+    if_ok_more c.all_kept.result (λ list h. misses_nothing s c.args.time list.operations cell c.index-form.ensures.form.primitive (subst (λ (t : Structure). ListsGroup t c.args.time list.operations) same h)) c.all_kept.ensures.exact
 
 pub returns-clause-ticks_at_most : goal.returns-clause-ticks_at_most
 returns-clause-ticks_at_most g c ws count isometries rarest =

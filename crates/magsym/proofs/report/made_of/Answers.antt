@@ -1,13 +1,12 @@
 use Rattle.magsym.proofs.SpelledSizes.{spelled_sizes}
 use Rattle.magsym.proofs.FoundLemmas.{reduced_primitive}
-use Rattle.prim_cell.proofs.Cells.{is_cell}
 use Rattle.magsym.proofs.report.made_of.Goals as goal
 
 -- the sizes of a cell that was read
 pub primitive-requires : goal.primitive-requires
-primitive-requires c = record { sizes = spelled_sizes c.requires.text c.args.cell.now c.requires.spelled c.count-form.ensures.form }
+primitive-requires c = record { sizes = spelled_sizes c.requires.text c.args.cell.now c.requires.spelled }
 
 pub returns : goal.returns
 returns c =
     let made = c.primitive.ensures in
-    reduced_primitive c.args.cell.now c.primitive.result (is_cell c.args.cell.now c.count-form.ensures.form) made.shifts made.cell made.primitive made.index made.count made.niggli
+    reduced_primitive c.args.cell.now c.primitive.result c.count-form.ensures.cell made.shifts made.cell made.primitive made.index made.count made.niggli

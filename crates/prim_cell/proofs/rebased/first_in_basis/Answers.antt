@@ -10,7 +10,6 @@ use Rattle.crystal.specs.Views.{site_of, metric_of}
 use Rattle.crystal.proofs.ImageLemmas.{member_at}
 use Rattle.basis_spec.specs.Bases.{site_in_basis}
 use Rattle.basis_spec.proofs.Residues.{residue_within}
-use Rattle.prim_cell.proofs.Moving.{some_cells}
 use Rattle.prim_cell.proofs.Making.{started_is}
 use Rattle.prim_cell.proofs.rebased.first_in_basis.Goals as goal
 
@@ -22,7 +21,7 @@ build-requires-clause-place c =
     let s = c.args.cell.now in
     let a = site_of c.atom.result.now in
     subst (λ (m : ℕ). IsWithinCell m (site_of c.atom_in_basis-first.result).position) (sym c.n-2.ensures)
-    (subst (λ (x : Site). IsWithinCell s.n x.position) (sym (c.atom_in_basis-first.ensures.value ∙ (λ i. site_in_basis (c.n.ensures i) (c.kind-kind.ensures i) c.args.r.now a))) (residue_within s.n (image c.args.r.now a.position) (some_cells s c.count-form.ensures.form)))
+    (subst (λ (x : Site). IsWithinCell s.n x.position) (sym (c.atom_in_basis-first.ensures.value ∙ (λ i. site_in_basis (c.n.ensures i) (c.kind-kind.ensures i) c.args.r.now a))) (residue_within s.n (image c.args.r.now a.position) c.count-form.ensures.cell.some_cells))
 
 pub build-requires-clause-of_kind : goal.build-requires-clause-of_kind
 build-requires-clause-of_kind c =

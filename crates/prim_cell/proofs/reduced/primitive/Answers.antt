@@ -4,7 +4,6 @@ use Rattle.crystal.specs.Numbering.{AreByFirstUse}
 use Rattle.crystal.specs.Views.{metric_of}
 use Rattle.basis_spec.specs.Translations.{ListsPureTranslations}
 use Rattle.prim_cell.specs.Primitives.{PrimitiveCell, TakesToStepBasis}
-use Rattle.prim_cell.proofs.Moving.{some_cells}
 use Rattle.prim_cell.proofs.Numbering.{stays_numbered}
 use Rattle.prim_cell.proofs.ReducedBases.{is_primitive_cell}
 use Rattle.prim_cell.proofs.reduced.primitive.Goals as goal
@@ -14,7 +13,7 @@ new-requires-2 c =
     let s = c.args.cell.now in
     let basis = c.reduced_basis-basis.result in
     let list = c.in_ok-shifts.shifts in
-    is_primitive_cell s c.in_ok-made.made list basis.index basis.back basis.fore (metric_of basis.metric)
+    is_primitive_cell s c.in_ok-made.made c.count-form.ensures.cell c.requires.sizes.metric list basis.index basis.back basis.fore (metric_of basis.metric)
     (c.in_ok-shifts.ensures.n ∙ ap (λ (t : Structure). t.n) c.in_ok-places.ensures)
     (subst (λ (t : Structure). ListsPureTranslations t list.operations) c.in_ok-places.ensures c.in_ok-shifts.ensures.exact)
     c.reduced_basis-basis.ensures c.in_ok-made.ensures
@@ -32,4 +31,4 @@ returns-clause-numbered c =
     let s = c.args.cell.now in
     let basis = c.reduced_basis-basis.result in
     subst (λ (p : PrimitiveCell). AreByFirstUse 0 (length s.names) s.sites → AreByFirstUse 0 (length p.cell.names) p.cell.sites) (sym c.new-2.ensures)
-    (stays_numbered s basis.back (some_cells s c.count-form.ensures.form) c.reduced_basis-basis.ensures.primitive.same c.in_ok-made.made c.in_ok-made.ensures)
+    (stays_numbered s basis.back c.count-form.ensures.cell.some_cells c.reduced_basis-basis.ensures.primitive.same c.in_ok-made.made c.in_ok-made.ensures)

@@ -5,7 +5,7 @@ use Rattle.crystal_spec.specs.Matrices.{difference}
 use Rattle.crystal_spec.specs.Crystals.{Structure}
 use Rattle.crystal_spec.specs.Operations.{IsWithinCell}
 use Rattle.crystal.specs.Views.{site_of, triple_of}
-use Rattle.crystal.specs.Cells.{IsCell}
+use Rattle.crystal.specs.Cells.{IsCellWithinLimits}
 use Rattle.op_group.specs.Views.{operation_of}
 use Rattle.basis_spec.specs.Positions.{residue}
 use Rattle.basis_spec.proofs.Residues.{residue_within}
@@ -18,14 +18,14 @@ is_translation-requires c =
     let s = c.args.places.now in
     let p = difference (triple_of c.atom-atom.result.now.place) (triple_of c.atom-first.result.now.place) in
     let same_n = c.n.ensures ∙ ap (λ (t : Structure). t.n) c.cell-cell.ensures in
-    subst (IsWithinCell s.n) (sym (c.between-shift.ensures ∙ ap (λ (n : ℕ). residue n p) same_n)) (residue_within s.n p (some_cells s (subst IsCell c.cell-cell.ensures c.count-form.ensures.form)))
+    subst (IsWithinCell s.n) (sym (c.between-shift.ensures ∙ ap (λ (n : ℕ). residue n p) same_n)) (residue_within s.n p (some_cells s (subst IsCellWithinLimits c.cell-cell.ensures c.count-form.ensures.form)))
 
 pub insert-requires : goal.insert-requires
 insert-requires c =
     let s = c.args.places.now in
     let p = difference (triple_of c.atom-atom.result.now.place) (triple_of c.atom-first.result.now.place) in
     let same_n = c.n.ensures ∙ ap (λ (t : Structure). t.n) c.cell-cell.ensures in
-    record { below_n = subst (λ (n : ℕ). IsWithinCell n (triple_of c.between-shift.result)) (sym c.requires.n) (subst (IsWithinCell s.n) (sym (c.between-shift.ensures ∙ ap (λ (n : ℕ). residue n p) same_n)) (residue_within s.n p (some_cells s (subst IsCell c.cell-cell.ensures c.count-form.ensures.form)))) }
+    record { below_n = subst (λ (n : ℕ). IsWithinCell n (triple_of c.between-shift.result)) (sym c.requires.n) (subst (IsWithinCell s.n) (sym (c.between-shift.ensures ∙ ap (λ (n : ℕ). residue n p) same_n)) (residue_within s.n p (some_cells s (subst IsCellWithinLimits c.cell-cell.ensures c.count-form.ensures.form)))) }
 
 pub returns-in_ok-insert-clause-members : goal.returns-in_ok-insert-clause-members
 returns-in_ok-insert-clause-members c o =

@@ -4,7 +4,7 @@ use Rattle.crystal_spec.specs.Increasing.{IsMember}
 use Rattle.crystal_spec.specs.Crystals.{Structure}
 use Rattle.crystal_spec.specs.Operations.{Operation}
 use Rattle.crystal.specs.Views.{site_of}
-use Rattle.crystal.specs.Cells.{IsCell}
+use Rattle.crystal.specs.Cells.{IsCellWithinLimits}
 use Rattle.prim_cell.specs.Candidates.{IsFromAtoms}
 use Rattle.prim_cell.proofs.Found.{found_more, found_all}
 use Rattle.prim_cell.proofs.translation.pure_shifts.Goals as goal
@@ -22,7 +22,7 @@ returns-clause-exact c =
     let from = site_of c.atom-first.result.now in
     let all : c.count-onto-end.result ≡ length s.sites = c.count-onto-end.ensures.value ∙ ap (λ (t : Structure). length t.sites) same in
     let ended : c.loop-onto.onto ≡ length s.sites = omega arith in
-    found_all s c.rarest-from.result from c.loop-onto.found.operations (subst IsCell same c.count-onto-end.ensures.form)
+    found_all s c.rarest-from.result from c.loop-onto.found.operations (subst IsCellWithinLimits same c.count-onto-end.ensures.form)
     (subst (λ (t : Structure). slice_get t.sites c.rarest-from.result ≡ Some from) same c.atom-first.ensures.value)
     c.count-count.ensures.ordered
     (subst (λ (k : ℕ). (o : Operation) → IsMember o c.loop-onto.found.operations ↔ IsFromAtoms s c.rarest-from.result k o) ended c.loop-onto.invariant.members)

@@ -1,7 +1,8 @@
 use Rattle.std.proofs.Common.{◌≡◌, sym, ap, subst, ◌∙◌, ℕ, List, length, map}
 use Rattle.crystal_spec.specs.Matrices.{Matrix, image}
 use Rattle.crystal_spec.specs.Crystals.{Structure}
-use Rattle.crystal.specs.Cells.{IsCell}
+use Rattle.crystal_spec.specs.Cells.{IsCell}
+use Rattle.crystal.specs.Cells.{IsCellWithinLimits}
 use Rattle.crystal.specs.Views.{site_of, triple_of}
 use Rattle.basis_spec.specs.Bases.{SameCrystal}
 use Rattle.basis_spec.specs.Positions.{residue}
@@ -13,13 +14,13 @@ use Rattle.site_orbits.proofs.equivalent.orbit_of.Goals as goal
 
 pub images-requires-clause-small : goal.images-requires-clause-small
 images-requires-clause-small c =
-    let form = subst (λ (s : Structure). IsCell s) c.cell.ensures c.count-form.ensures.form in
-    small_of_all c.args.prim.now.cell c.args.list.now.operations c.index-index.ensures.form.niggli form.symmetric c.requires.group
+    let cell = subst (λ (s : Structure). IsCell s) c.cell.ensures c.count-form.ensures.cell in
+    small_of_all c.args.prim.now.cell c.args.list.now.operations c.index-index.ensures.form.niggli cell.symmetric c.requires.group
 
 pub fixing-requires-clause-small : goal.fixing-requires-clause-small
 fixing-requires-clause-small c =
-    let form = subst (λ (s : Structure). IsCell s) c.cell.ensures c.count-form.ensures.form in
-    small_of_all c.args.prim.now.cell c.args.list.now.operations c.index-index.ensures.form.niggli form.symmetric c.requires.group
+    let cell = subst (λ (s : Structure). IsCell s) c.cell.ensures c.count-form.ensures.cell in
+    small_of_all c.args.prim.now.cell c.args.list.now.operations c.index-index.ensures.form.niggli cell.symmetric c.requires.group
 
 pub returns : goal.returns
 returns c =
@@ -31,7 +32,7 @@ returns c =
     let found = c.in_ok-images.images.items in
     let qs = map triple_of found in
     let o : AtomOrbit = record { first = c.first_among-first.result; size = c.count_among-size.result; site = c.in_ok-site.site } in
-    let primitive : IsCell b = subst (λ (t : Structure). IsCell t) c.cell.ensures c.count-form.ensures.form in
+    let primitive : IsCellWithinLimits b = subst (λ (t : Structure). IsCellWithinLimits t) c.cell.ensures c.count-form.ensures.form in
     let same : SameCrystal s b r = subst (λ (t : Structure). SameCrystal s t r) c.requires.same_cell c.requires.primitive.same in
     let first : IsFirstAmong s.n r qs s.sites c.args.i o.first =
     subst (λ (l : List (List ℕ)). IsFirstAmong s.n r (map triple_of l) s.sites c.args.i o.first) c.deref.ensures.value
@@ -49,4 +50,4 @@ returns c =
       ordered = c.in_ok-site.ensures.ordered;
       exact = c.in_ok-site.ensures.exact;
     } in
-    subst (IsOrbitAt s r b os c.args.i) (sym c.new.ensures) (orbit_found s b r os c.count-count.ensures.form primitive same c.requires.group c.args.i c.args.list.now.n (triple_of c.place_in_basis-place.result) qs o c.requires.n is_found)
+    subst (IsOrbitAt s r b os c.args.i) (sym c.new.ensures) (orbit_found s b r os c.count-count.ensures.cell primitive same c.requires.group c.args.i c.args.list.now.n (triple_of c.place_in_basis-place.result) qs o c.requires.n is_found)

@@ -1,6 +1,6 @@
 use Rattle.std.proofs.Common.{◌≡◌, sym, ap, subst, ◌∙◌, ℕ, ◌+◌, length, arith}
 use Rattle.crystal_spec.specs.Crystals.{Structure}
-use Rattle.crystal.specs.Cells.{IsCell}
+use Rattle.crystal.specs.Cells.{IsCellWithinLimits}
 use Rattle.basis_spec.specs.Bases.{SameCrystal}
 use Rattle.site_orbits.specs.Entries.{HaveOrbits}
 use Rattle.site_orbits.proofs.Making.{alike_equivalence, alike_species, orbits_more, no_orbits}
@@ -36,7 +36,7 @@ returns-in_err-orbit_of-clause-equivalence c =
     let b = c.args.prim.now.cell in
     let r = c.args.prim.now.back in
     let same : SameCrystal s b r = subst (λ (t : Structure). SameCrystal s t r) c.requires.same_cell c.requires.primitive.same in
-    alike_equivalence s b r c.args.list.now.operations c.count-i-end.ensures.form (subst (λ (t : Structure). IsCell t) c.cell.ensures c.count-form.ensures.form) same c.requires.group
+    alike_equivalence s b r c.args.list.now.operations c.count-i-end.ensures.cell (subst (λ (t : Structure). IsCellWithinLimits t) c.cell.ensures c.count-form.ensures.form) same c.requires.group
 
 pub returns-in_err-orbit_of-clause-one_species : goal.returns-in_err-orbit_of-clause-one_species
 returns-in_err-orbit_of-clause-one_species c =
@@ -44,7 +44,7 @@ returns-in_err-orbit_of-clause-one_species c =
     let b = c.args.prim.now.cell in
     let r = c.args.prim.now.back in
     let same : SameCrystal s b r = subst (λ (t : Structure). SameCrystal s t r) c.requires.same_cell c.requires.primitive.same in
-    alike_species s b r c.args.list.now.operations c.count-i-end.ensures.form (subst (λ (t : Structure). IsCell t) c.cell.ensures c.count-form.ensures.form) same c.requires.group
+    alike_species s b r c.args.list.now.operations c.count-i-end.ensures.cell (subst (λ (t : Structure). IsCellWithinLimits t) c.cell.ensures c.count-form.ensures.form) same c.requires.group
 
 pub returns-in_err-push-clause-equivalence : goal.returns-in_err-push-clause-equivalence
 returns-in_err-push-clause-equivalence c =
@@ -52,7 +52,7 @@ returns-in_err-push-clause-equivalence c =
     let b = c.args.prim.now.cell in
     let r = c.args.prim.now.back in
     let same : SameCrystal s b r = subst (λ (t : Structure). SameCrystal s t r) c.requires.same_cell c.requires.primitive.same in
-    alike_equivalence s b r c.args.list.now.operations c.count-i-end.ensures.form (subst (λ (t : Structure). IsCell t) c.cell.ensures c.count-form.ensures.form) same c.requires.group
+    alike_equivalence s b r c.args.list.now.operations c.count-i-end.ensures.cell (subst (λ (t : Structure). IsCellWithinLimits t) c.cell.ensures c.count-form.ensures.form) same c.requires.group
 
 pub returns-in_err-push-clause-one_species : goal.returns-in_err-push-clause-one_species
 returns-in_err-push-clause-one_species c =
@@ -60,7 +60,7 @@ returns-in_err-push-clause-one_species c =
     let b = c.args.prim.now.cell in
     let r = c.args.prim.now.back in
     let same : SameCrystal s b r = subst (λ (t : Structure). SameCrystal s t r) c.requires.same_cell c.requires.primitive.same in
-    alike_species s b r c.args.list.now.operations c.count-i-end.ensures.form (subst (λ (t : Structure). IsCell t) c.cell.ensures c.count-form.ensures.form) same c.requires.group
+    alike_species s b r c.args.list.now.operations c.count-i-end.ensures.cell (subst (λ (t : Structure). IsCellWithinLimits t) c.cell.ensures c.count-form.ensures.form) same c.requires.group
 
 pub returns-clause-equivalence : goal.returns-clause-equivalence
 returns-clause-equivalence c =
@@ -68,7 +68,7 @@ returns-clause-equivalence c =
     let b = c.args.prim.now.cell in
     let r = c.args.prim.now.back in
     let same : SameCrystal s b r = subst (λ (t : Structure). SameCrystal s t r) c.requires.same_cell c.requires.primitive.same in
-    alike_equivalence s b r c.args.list.now.operations c.count-i-end.ensures.form (subst (λ (t : Structure). IsCell t) c.cell.ensures c.count-form.ensures.form) same c.requires.group
+    alike_equivalence s b r c.args.list.now.operations c.count-i-end.ensures.cell (subst (λ (t : Structure). IsCellWithinLimits t) c.cell.ensures c.count-form.ensures.form) same c.requires.group
 
 pub returns-clause-one_species : goal.returns-clause-one_species
 returns-clause-one_species c =
@@ -76,4 +76,4 @@ returns-clause-one_species c =
     let b = c.args.prim.now.cell in
     let r = c.args.prim.now.back in
     let same : SameCrystal s b r = subst (λ (t : Structure). SameCrystal s t r) c.requires.same_cell c.requires.primitive.same in
-    alike_species s b r c.args.list.now.operations c.count-i-end.ensures.form (subst (λ (t : Structure). IsCell t) c.cell.ensures c.count-form.ensures.form) same c.requires.group
+    alike_species s b r c.args.list.now.operations c.count-i-end.ensures.cell (subst (λ (t : Structure). IsCellWithinLimits t) c.cell.ensures c.count-form.ensures.form) same c.requires.group
