@@ -61,11 +61,15 @@ tells_first_part (piece ∷ rest) d highest a b f g failed (Ok u) h e w = absurd
 tells_first_part (piece ∷ rest) d highest a b f g failed (Err fault) h e w =
     tells_part highest a b f g failed piece.now (concat (map (λ (p : Bor (List ℕ)). p.now) rest)) fault.written w.1 w.2 w.3
 
--- seven pieces, one after another
-pub seven_pieces : (a b c d e f g : List ℕ) → a ++ (b ++ (c ++ (d ++ (e ++ (f ++ g))))) ≡ a ++ b ++ c ++ d ++ e ++ f ++ g
-seven_pieces a b c d e f g =
-    sym (append_assoc a b (c ++ (d ++ (e ++ (f ++ g)))))
-    ∙ sym (append_assoc (a ++ b) c (d ++ (e ++ (f ++ g))))
-    ∙ sym (append_assoc (a ++ b ++ c) d (e ++ (f ++ g)))
-    ∙ sym (append_assoc (a ++ b ++ c ++ d) e (f ++ g))
-    ∙ sym (append_assoc (a ++ b ++ c ++ d ++ e) f g)
+-- four pieces, one after another
+pub four_pieces : (a b c d : List ℕ) → a ++ (b ++ (c ++ (d ++ []))) ≡ a ++ b ++ c ++ d
+four_pieces a b c d = ap (λ zs. a ++ (b ++ (c ++ zs))) (append-nil d) ∙ sym (append_assoc a b (c ++ d)) ∙ sym (append_assoc (a ++ b) c d)
+
+-- three pieces, and five more, one after another
+pub eight_pieces : (a b c d e f g h : List ℕ) → a ++ (b ++ (c ++ (d ++ (e ++ (f ++ (g ++ h)))))) ≡ (a ++ b ++ c) ++ (d ++ e ++ f ++ g ++ h)
+eight_pieces a b c d e f g h =
+    let five : d ++ (e ++ (f ++ (g ++ h))) ≡ d ++ e ++ f ++ g ++ h =
+      sym (append_assoc d e (f ++ (g ++ h))) ∙ sym (append_assoc (d ++ e) f (g ++ h)) ∙ sym (append_assoc (d ++ e ++ f) g h) in
+    sym (append_assoc a b (c ++ (d ++ (e ++ (f ++ (g ++ h))))))
+    ∙ sym (append_assoc (a ++ b) c (d ++ (e ++ (f ++ (g ++ h)))))
+    ∙ ap (λ zs. a ++ b ++ c ++ zs) five

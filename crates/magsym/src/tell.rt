@@ -2,7 +2,8 @@ ghost use Rattle.std.specs.Prelude.{◌≡◌, ◌≤◌, ◌++◌, map, codes, 
 ghost use Rattle.std.specs.List.{concat};
 ghost use Rattle.magsym.specs.Telling.{Tells};
 ghost use Rattle.magsym.specs.declared.status.Status.TheVariants.{CellRefused};
-ghost use Rattle.magsym.specs.Statuses.{line_of};
+ghost use Rattle.cell_text.specs.declared.fault.CellFault.TheVariants.{SamePlace};
+ghost use Rattle.magsym.specs.Statuses.{fault_line, line_of};
 ghost use Rattle.magsym.specs.Outcomes.{IsDone};
 
 use crate::command::UsageFault;
@@ -23,9 +24,10 @@ fn tell_pieces<E: Sink>(err: &mut E, pieces: &[&[u8]])
     }
 }
 
-/// Writes that a line of the cell file breaks a rule, and this text on the rule.
-fn tell_at<E: Sink>(err: &mut E, line: u32, text: &[u8])
-    ensures told { Tells E.highest_count (E.held err.old) (E.held err.new) (E.faults err.old) (E.faults err.new) (E.last_failed err.new) (codes "magsym: line " ++ decimal line ++ codes ": " ++ text.now) }
+/// Writes that a line of the cell file breaks a rule, and the text on the rule.
+fn tell_at<E: Sink>(err: &mut E, line: u32, fault: &CellFault, text: &[u8])
+    requires { text.now ≡ fault_line fault.now }
+    ensures told { Tells E.highest_count (E.held err.old) (E.held err.new) (E.faults err.old) (E.faults err.new) (E.last_failed err.new) (line_of (CellRefused line fault.now)) }
     ensures later { E.faults err.old ≤ E.faults err.new }
 {
     let mut number = Buffer::new();
@@ -35,7 +37,7 @@ fn tell_at<E: Sink>(err: &mut E, line: u32, text: &[u8])
 
 /// Writes that a line of the cell file gives an atom at the position of another.
 fn tell_same_place<E: Sink>(err: &mut E, line: u32, first: u32, second: u32)
-    ensures told { Tells E.highest_count (E.held err.old) (E.held err.new) (E.faults err.old) (E.faults err.new) (E.last_failed err.new) (codes "magsym: line " ++ decimal line ++ codes ": atoms " ++ decimal first ++ codes " and " ++ decimal second ++ codes " stand at one place\n") }
+    ensures told { Tells E.highest_count (E.held err.old) (E.held err.new) (E.faults err.old) (E.faults err.new) (E.last_failed err.new) (line_of (CellRefused line (SamePlace first second))) }
     ensures later { E.faults err.old ≤ E.faults err.new }
 {
     let (mut number, mut one, mut other) = (Buffer::new(), Buffer::new(), Buffer::new());
@@ -47,7 +49,8 @@ fn tell_same_place<E: Sink>(err: &mut E, line: u32, first: u32, second: u32)
         &[
             b"magsym: line ".as_slice(),
             line,
-            b": atoms ",
+            b": ",
+            b"atoms ",
             first,
             b" and ",
             second,
@@ -62,27 +65,23 @@ fn tell_refused<E: Sink>(err: &mut E, line: u32, fault: &CellFault)
     ensures later { E.faults err.old ≤ E.faults err.new }
 {
     match fault {
-        CellFault::NotMagcell => tell_at(err, line, b"not a magcell 1 file\n"),
-        CellFault::BadByte => tell_at(err, line, b"byte is not plain ASCII\n"),
-        CellFault::BadLine => tell_at(err, line, b"line has no known form\n"),
-        CellFault::BadNumber => tell_at(err, line, b"not a number\n"),
-        CellFault::NumberRange => tell_at(err, line, b"number has more than 18 digits\n"),
-        CellFault::ZeroDenominator => tell_at(err, line, b"denominator is zero\n"),
-        CellFault::MetricTwice => tell_at(err, line, b"metric is given twice\n"),
-        CellFault::MetricMissing => tell_at(err, line, b"metric is missing\n"),
-        CellFault::MetricRange => tell_at(err, line, b"metric is out of range\n"),
-        CellFault::NotPositive => tell_at(err, line, b"metric is not positive\n"),
-        CellFault::PositionRange => tell_at(
-            err,
-            line,
-            b"positions have no common denominator up to 1000000\n",
-        ),
-        CellFault::MomentRange => tell_at(err, line, b"moments are out of range\n"),
-        CellFault::TooManyAtoms => tell_at(err, line, b"more than 512 atoms\n"),
-        CellFault::NoAtom => tell_at(err, line, b"no atom\n"),
+        CellFault::NotMagcell => tell_at(err, line, fault, b"not a magcell 1 file\n"),
+        CellFault::BadByte => tell_at(err, line, fault, b"byte is not plain ASCII\n"),
+        CellFault::BadLine => tell_at(err, line, fault, b"line has no known form\n"),
+        CellFault::BadNumber => tell_at(err, line, fault, b"not a number\n"),
+        CellFault::NumberRange => tell_at(err, line, fault, b"number has more than 18 digits\n"),
+        CellFault::ZeroDenominator => tell_at(err, line, fault, b"denominator is zero\n"),
+        CellFault::MetricTwice => tell_at(err, line, fault, b"metric is given twice\n"),
+        CellFault::MetricMissing => tell_at(err, line, fault, b"metric is missing\n"),
+        CellFault::MetricRange => tell_at(err, line, fault, b"metric is out of range\n"),
+        CellFault::NotPositive => tell_at(err, line, fault, b"metric is not positive\n"),
+        CellFault::PositionRange => tell_at(err, line, fault, b"positions have no common denominator up to 1000000\n"),
+        CellFault::MomentRange => tell_at(err, line, fault, b"moments are out of range\n"),
+        CellFault::TooManyAtoms => tell_at(err, line, fault, b"more than 512 atoms\n"),
+        CellFault::NoAtom => tell_at(err, line, fault, b"no atom\n"),
         CellFault::SamePlace(i, j) => tell_same_place(err, line, *i, *j),
-        CellFault::NoEnd => tell_at(err, line, b"end is missing\n"),
-        CellFault::AfterEnd => tell_at(err, line, b"text after end\n"),
+        CellFault::NoEnd => tell_at(err, line, fault, b"end is missing\n"),
+        CellFault::AfterEnd => tell_at(err, line, fault, b"text after end\n"),
     }
 }
 

@@ -6,3 +6,4 @@ mod Stabilizer
 mod Fixing
 mod Small
 mod Making
+mod KnownValues

@@ -1,6 +1,6 @@
 use Rattle.std.proofs.Common.{◌≡◌, subst, ◌∙◌, List, ℕ, ◌++◌, codes, decimal}
 use Rattle.magsym.specs.Telling.{Tells}
-use Rattle.magsym.proofs.TellingLemmas.{seven_pieces}
+use Rattle.magsym.proofs.TellingLemmas.{eight_pieces}
 use Rattle.magsym.proofs.tell.tell_same_place.Goals as goal
 
 pub returns-clause-told : goal.returns-clause-told
@@ -13,9 +13,9 @@ returns-clause-told g c =
     let is_first : first ≡ decimal c.args.first = c.as_bytes-first.ensures.value ∙ c.format-2.ensures.text in
     let is_second : second ≡ decimal c.args.second = c.as_bytes-second.ensures.value ∙ c.format-3.ensures.text in
     let Told : List ℕ → Type 0 = λ line. Tells g.E.Sink.highest_count (g.E.Sink.held c.args.err.now) (g.E.Sink.held c.tell_pieces.new.err) (g.E.Sink.faults c.args.err.now) (g.E.Sink.faults c.tell_pieces.new.err) (g.E.Sink.last_failed c.tell_pieces.new.err) line in
-    let pieces = seven_pieces magsym line (codes ": atoms ") first (codes " and ") second (codes " stand at one place\n") in
-    subst (λ (a : List ℕ). Told (a ++ decimal c.args.line ++ codes ": atoms " ++ decimal c.args.first ++ codes " and " ++ decimal c.args.second ++ codes " stand at one place\n")) c.as_slice.ensures
-    (subst (λ (b : List ℕ). Told (magsym ++ b ++ codes ": atoms " ++ decimal c.args.first ++ codes " and " ++ decimal c.args.second ++ codes " stand at one place\n")) is_line
-    (subst (λ (d : List ℕ). Told (magsym ++ line ++ codes ": atoms " ++ d ++ codes " and " ++ decimal c.args.second ++ codes " stand at one place\n")) is_first
-    (subst (λ (f : List ℕ). Told (magsym ++ line ++ codes ": atoms " ++ first ++ codes " and " ++ f ++ codes " stand at one place\n")) is_second
+    let pieces = eight_pieces magsym line (codes ": ") (codes "atoms ") first (codes " and ") second (codes " stand at one place\n") in
+    subst (λ (a : List ℕ). Told (a ++ decimal c.args.line ++ codes ": " ++ (codes "atoms " ++ decimal c.args.first ++ codes " and " ++ decimal c.args.second ++ codes " stand at one place\n"))) c.as_slice.ensures
+    (subst (λ (b : List ℕ). Told (magsym ++ b ++ codes ": " ++ (codes "atoms " ++ decimal c.args.first ++ codes " and " ++ decimal c.args.second ++ codes " stand at one place\n"))) is_line
+    (subst (λ (d : List ℕ). Told (magsym ++ line ++ codes ": " ++ (codes "atoms " ++ d ++ codes " and " ++ decimal c.args.second ++ codes " stand at one place\n"))) is_first
+    (subst (λ (f : List ℕ). Told (magsym ++ line ++ codes ": " ++ (codes "atoms " ++ first ++ codes " and " ++ f ++ codes " stand at one place\n"))) is_second
     (subst (λ (whole : List ℕ). Told whole) pieces c.tell_pieces.ensures.told))))
