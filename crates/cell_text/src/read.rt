@@ -41,8 +41,9 @@ fn read_lines(alloc: Global, text: &[u8]) -> Result<Reader, CellError>
 
 /// The cell that the text of a cell file `magcell 1` spells.
 ///
-/// Its species are numbered in the order of their first use. Asks that the text has fewer than 2^32 - 1 bytes. `Refused` names the first line that breaks a rule, counted from 1, and
-/// the first rule that it breaks; `Memory` comes for want of memory alone.
+/// Its species are numbered in the order of their first use. Asks that the text has fewer than 2^32 - 1 bytes. `Refused`
+/// names the first line that breaks a rule, counted from 1, and the first rule that it breaks; `Memory` comes for want of
+/// memory alone.
 pub fn read_cell(alloc: Global, text: &Bytes) -> Result<Cell, CellError>
     requires { length text.now + 1 < 2 ^ 32 }
     ensures value { IfOk result (Spells text.now) }

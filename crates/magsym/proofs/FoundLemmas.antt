@@ -1,12 +1,11 @@
 -- What is found of a crystal: what prim_cell says of a primitive cell, gathered, and what the reports need of it.
-use Rattle.std.proofs.Common.{◌≡◌, ℕ, pos, Bool, true, false, List, length, subst, sym}
+use Rattle.std.proofs.Common.{◌≡◌, ℕ, pos, true, length, subst, sym}
 use Rattle.std.specs.Prelude.{IfOk}
 use Rattle.std.specs.declared.result.Result.{Result}
 use Rattle.std.specs.declared.result.Result.TheVariants.{Ok, Err}
 use Rattle.crystal_spec.specs.Matrices.{determinant}
 use Rattle.crystal_spec.specs.Cells.{IsCell}
 use Rattle.crystal_spec.specs.Crystals.{Structure}
-use Rattle.crystal_spec.specs.Operations.{Operation, ListsAll}
 use Rattle.lattice_spec.specs.Niggli.{IsNiggli}
 use Rattle.basis_spec.specs.Translations.{IsPrimitive, ListsPureTranslations}
 use Rattle.basis_spec.specs.Bases.{cell_in_basis, IsPrimitiveIn}

@@ -7,10 +7,9 @@ use Rattle.std.specs.declared.result.Result.TheVariants.{Ok, Err}
 use Rattle.cell_text.specs.Numbers.{decimal}
 use Rattle.magsym.specs.declared.options.Awaited.TheVariants.{AnyOption, ValueOfSkip, ValueOfTake}
 use Rattle.magsym.specs.declared.options.Options.{Options}
-use Rattle.magsym.specs.declared.command.Command.{Command}
 use Rattle.magsym.specs.declared.command.UsageFault.{UsageFault}
-use Rattle.magsym.specs.declared.command.UsageFault.TheVariants.{RepeatedOption, BadValue}
-use Rattle.magsym.specs.Commands.{is_count, count_of, with_skip, with_take, options}
+use Rattle.magsym.specs.declared.command.UsageFault.TheVariants.{BadValue}
+use Rattle.magsym.specs.Commands.{is_count, count_of, options}
 use Rattle.magsym.specs.OptionOrder.{Choice, no_time_reversal, skip_count, take_count, words_of, words, HasCount, ComeInAnyOrder}
 use Rattle.magsym.proofs.OptionLemmas.{step, after_word}
 

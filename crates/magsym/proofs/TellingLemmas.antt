@@ -69,7 +69,7 @@ four_pieces a b c d = ap (λ zs. a ++ (b ++ (c ++ zs))) (append-nil d) ∙ sym (
 pub eight_pieces : (a b c d e f g h : List ℕ) → a ++ (b ++ (c ++ (d ++ (e ++ (f ++ (g ++ h)))))) ≡ (a ++ b ++ c) ++ (d ++ e ++ f ++ g ++ h)
 eight_pieces a b c d e f g h =
     let five : d ++ (e ++ (f ++ (g ++ h))) ≡ d ++ e ++ f ++ g ++ h =
-      sym (append_assoc d e (f ++ (g ++ h))) ∙ sym (append_assoc (d ++ e) f (g ++ h)) ∙ sym (append_assoc (d ++ e ++ f) g h) in
+    sym (append_assoc d e (f ++ (g ++ h))) ∙ sym (append_assoc (d ++ e) f (g ++ h)) ∙ sym (append_assoc (d ++ e ++ f) g h) in
     sym (append_assoc a b (c ++ (d ++ (e ++ (f ++ (g ++ h))))))
     ∙ sym (append_assoc (a ++ b) c (d ++ (e ++ (f ++ (g ++ h)))))
     ∙ ap (λ zs. a ++ b ++ c ++ zs) five

@@ -82,8 +82,9 @@ pub record IsPrimitiveReport (c : Structure) (q : Matrix) (bytes : List ℕ) : T
   pub lines : bytes ≡ cell_in_basis_text index q (cell_in_basis c q)
 
 -- Q takes coordinates to those in a Niggli-reduced basis of all translations of the crystal. The bytes are the text of the
--- index, which is det Q and how many pure translations the crystal has, Q, the metric tensor there, the list of all symmetry operations there, the number of those of the cell, the
--- magnetic type with the orders of the family group and of the maximal space subgroup, and the orbits of the atoms.
+-- index, which is det Q and how many pure translations the crystal has, Q, the metric tensor there, the list of all symmetry
+-- operations there, the number of those of the cell, the magnetic type with the orders of the family group and of the
+-- maximal space subgroup, and the orbits of the atoms.
 pub record IsDatasetReport (c : Structure) (q : Matrix) (bytes : List ℕ) : Type 0 where
   pub primitive : IsPrimitiveIn c q
   pub niggli : IsNiggli (cell_in_basis c q).metric

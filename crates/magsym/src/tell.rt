@@ -75,7 +75,12 @@ fn tell_refused<E: Sink>(err: &mut E, line: u32, fault: &CellFault)
         CellFault::MetricMissing => tell_at(err, line, fault, b"metric is missing\n"),
         CellFault::MetricRange => tell_at(err, line, fault, b"metric is out of range\n"),
         CellFault::NotPositive => tell_at(err, line, fault, b"metric is not positive\n"),
-        CellFault::PositionRange => tell_at(err, line, fault, b"positions have no common denominator up to 1000000\n"),
+        CellFault::PositionRange => tell_at(
+            err,
+            line,
+            fault,
+            b"positions have no common denominator up to 1000000\n",
+        ),
         CellFault::MomentRange => tell_at(err, line, fault, b"moments are out of range\n"),
         CellFault::TooManyAtoms => tell_at(err, line, fault, b"more than 512 atoms\n"),
         CellFault::NoAtom => tell_at(err, line, fault, b"no atom\n"),

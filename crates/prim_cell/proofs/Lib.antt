@@ -6,3 +6,4 @@ pub mod Ranges
 pub mod FewTranslations
 pub mod ReducedBases
 pub mod Numbering
+mod KnownValues

@@ -86,6 +86,7 @@ site_of_quarter = record { increasing = (tt, tt); exact = λ o. (to o, from o) }
     to : (o : Operation) → IsMember o (nothing ∷ []) → IsFixedBy 4 both one_quarter o
     to o (inl e) = (inr (inl e), subst (λ (x : Operation). Carries 4 x one_quarter one_quarter) (sym e) (record { cells = at (pos 0) (pos 0) (pos 0); is = refl }))
     to o (inr m) = absurd m
+
     from : (o : Operation) → IsFixedBy 4 both one_quarter o → IsMember o (nothing ∷ [])
     from o (inl e, d) = absurd (not_left (subst (λ (x : Operation). Carries 4 x one_quarter one_quarter) e d))
     from o (inr (inl e), d) = inl e
@@ -98,10 +99,12 @@ orbit_of_two = record { atoms = atom 1 one_quarter ∷ atom 1 three_quarters ∷
     apart : IsMember (atom 1 one_quarter) (atom 1 three_quarters ∷ []) → ⊥
     apart (inl e) = let f : pos 1 ≡ pos 3 = ap (λ (x : Site). x.position.x) e in cc f
     apart (inr m) = absurd m
+
     to : (a : Site) → IsMember a (atom 1 one_quarter ∷ atom 1 three_quarters ∷ []) → IsInOrbit crystal both one_quarter a
     to a (inl e) = (inr (inl e), subst (λ (x : Site). IsAlike 4 both one_quarter x.position) (sym e) (record { operation = nothing; of_list = inr (inl refl); carries = record { cells = at (pos 0) (pos 0) (pos 0); is = refl } }))
     to a (inr (inl e)) = (inr (inr (inl e)), subst (λ (x : Site). IsAlike 4 both one_quarter x.position) (sym e) alike)
     to a (inr (inr m)) = absurd m
+
     from : (a : Site) → IsInOrbit crystal both one_quarter a → IsMember a (atom 1 one_quarter ∷ atom 1 three_quarters ∷ [])
     from a (inl e, l) = absurd (quarter_is_not_origin (subst (λ (x : Site). IsAlike 4 both one_quarter x.position) e l))
     from a (inr (inl e), l) = inl e

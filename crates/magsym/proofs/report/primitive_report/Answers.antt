@@ -1,5 +1,4 @@
 use Rattle.std.proofs.Common.{sym, ap, subst, ◌∙◌}
-use Rattle.std.specs.Prelude.{List}
 use Rattle.report_text.specs.PrimitiveText.{cell_in_basis_text}
 use Rattle.magsym.specs.declared.command.Command.TheVariants.{Primitive}
 use Rattle.magsym.specs.declared.status.Kept.{Kept}

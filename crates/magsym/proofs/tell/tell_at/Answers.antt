@@ -1,4 +1,4 @@
-use Rattle.std.proofs.Common.{◌≡◌, subst, sym, ap, ◌∙◌, List, ℕ, ◌++◌, codes, decimal}
+use Rattle.std.proofs.Common.{◌≡◌, subst, ◌∙◌, List, ℕ, ◌++◌, codes, decimal}
 use Rattle.magsym.specs.Statuses.{fault_line}
 use Rattle.magsym.specs.Telling.{Tells}
 use Rattle.magsym.proofs.TellingLemmas.{four_pieces}
