@@ -1,0 +1,7 @@
+mod KnownValues
+mod Cutting
+pub mod DigitLemmas
+pub mod Signs
+pub mod Multiples
+mod PrintedPieces
+pub mod NumberWords

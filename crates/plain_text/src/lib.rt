@@ -1,0 +1,27 @@
+//! Plain text: lines, words, digits, number words read, and numbers printed.
+//!
+//! Text is a list of bytes. A number is an optional `-`, digits, and optionally `/` and digits, each part of at most 18
+//! digits; it is printed in lowest terms, and read back as the same number.
+//!
+//! Definitions: `specs/Text` (lines, words, bytes), `specs/Digits`, `specs/NumberWords` (number words and what they spell),
+//! `specs/NumberText` (numbers as they are printed) and `specs/FirstFaults` (the first of some faults). The formats are our
+//! own.
+#![tactic(auto)]
+
+mod blanks;
+mod digits;
+mod fault;
+mod lines;
+mod number;
+mod number_word;
+mod print;
+
+pub use digits::{count, is_digits, value_of_digits};
+pub use fault::NumberFault;
+pub use lines::{first_line, has_bad_byte, is_plain_byte, words, words_between_spaces};
+pub use number::{grown, is_same_modulo_1, read_number, times, zero};
+pub use number_word::NumberWord;
+pub use print::{push_decimal, push_number, push_numbers};
+
+#[cfg(test)]
+mod tests;

@@ -1,0 +1,15 @@
+// A number as it is written. Its functions stand in `number.rt`, since a definition that sees this type sees no file that cites it.
+ghost use Rattle.std.specs.Prelude.{◌<◌, ◌^◌};
+
+/// A fraction in lowest terms with parts of at most 18 digits, with its sign apart.
+///
+/// Contracts see it as the `Fraction` of the crate numbers.
+#[derive(Clone, Copy)]
+pub struct NumberWord {
+    pub negative: bool,
+    pub num: u128,
+    pub den: u128,
+    ghost positive: { 0 < den },
+    ghost short_num: { num < 10 ^ 18 },
+    ghost short_den: { den < 10 ^ 18 },
+}
