@@ -13,17 +13,18 @@ use Rattle.std.proofs.lemmas.Nat.Gcd.{dvd_refl, dvd_trans}
 use Rattle.std.proofs.Math.Nat.{div-mul_cancel, mul-div_cancel_left, dvd-mul_right, eq-one_of_dvd-one, div-mul-le_self, mul-le-mul_left}
 use Rattle.numbers.specs.Gcd.{gcd, lcm}
 use Rattle.numbers.proofs.GcdLemmas.{gcd_is, gcd-swap, lcm_least, lcm-multiple_left, lcm-multiple_right}
-use Rattle.cell_text.specs.Numbers.{Fraction, signed, scaled, common_denominator, number_value}
-use Rattle.cell_text.proofs.Multiples.{parts-positive}
-use Rattle.cell_text.proofs.Signs.{signed-mul}
+use Rattle.numbers.specs.Fraction.{Fraction, fraction, lowest}
+use Rattle.plain_text.specs.NumberWords.{signed, denominator_of, scaled, common_denominator, number_value}
+use Rattle.plain_text.proofs.Multiples.{parts-positive}
+use Rattle.plain_text.proofs.Signs.{signed-mul}
 use Rattle.cell_print.specs.Printable.{divisor_with}
-use Rattle.cell_print.proofs.NumberWords.{is_below_zero, reduced}
+use Rattle.plain_text.proofs.NumberWords.{is_below_zero, reduced}
 
 -- ---- the denominators divide d
 
 -- the least common multiple of start and the denominators of the numbers in units of 1/d
 abbrev pub grown : ℕ → ℕ → List ℤ → ℕ
-grown d start zs = fold (λ m f. lcm m f.den) start (map (reduced d) zs)
+grown d start zs = fold (λ m f. lcm m (denominator_of f)) start (map (reduced d) zs)
 
 -- the denominator of z/d
 abbrev pub part : ℕ → ℤ → ℕ
@@ -122,10 +123,10 @@ smaller_quotient m d k some h = le-div (m / k) d k some (omega (arith, h, div-mu
 pub scaled-smaller : (d m : ℕ) (z : ℤ) → 0 < d → m ≤ d → unsigned_abs (scaled m (reduced d z)) ≤ unsigned_abs z
 scaled-smaller d m z some h =
     let f = reduced d z in
-    let small : m / f.den ≤ d / f.den = smaller_quotient m d f.den (parts-positive (unsigned_abs z) d some) h in
-    let sizes : unsigned_abs f.num * (m / f.den) ≤ unsigned_abs f.num * (d / f.den) = mul-le-mul_left (unsigned_abs f.num) small in
-    let here = unsigned_abs-mul f.num (pos (m / f.den)) in
-    let there = unsigned_abs-mul f.num (pos (d / f.den)) in
+    let small : m / (denominator_of f) ≤ d / (denominator_of f) = smaller_quotient m d (denominator_of f) (parts-positive (unsigned_abs z) d some) h in
+    let sizes : unsigned_abs f.numerator * (m / (denominator_of f)) ≤ unsigned_abs f.numerator * (d / (denominator_of f)) = mul-le-mul_left (unsigned_abs f.numerator) small in
+    let here = unsigned_abs-mul f.numerator (pos (m / (denominator_of f))) in
+    let there = unsigned_abs-mul f.numerator (pos (d / (denominator_of f))) in
     omega (arith, sizes, here, there, ap unsigned_abs (scaled-reduced d z some))
 
 -- ---- zero
@@ -136,11 +137,11 @@ gcd-zero_left k = gcd-swap 0 k ∙ refl
 
 -- 0 in any unit is 0/1, as a word that is not there is
 pub reduced-zero : (k : ℕ) → 0 < k → reduced k (pos 0) ≡ number_value []
-unfolding number_value gcd
+unfolding number_value lowest gcd
 reduced-zero k h = ap (λ (g : ℕ). made (0 / g) (k / g)) (gcd-zero_left k) ∙ ap (λ (n : ℕ). made n (k / k)) none ∙ ap (λ (n : ℕ). made 0 n) one
   where
     made : ℕ → ℕ → Fraction
-    made n d = record { num = pos n; den = d }
+    made n d = fraction (pos n) (pos d)
 
     none : 0 / k ≡ 0
     none = sym (ap (λ (n : ℕ). n / k) (omega arith)) ∙ mul-div_cancel_left 0 h

@@ -9,8 +9,11 @@ use Rattle.crystal_spec.specs.Crystals.{Site, Structure}
 use Rattle.crystal_spec.specs.Operations.{IsWithinCell}
 use Rattle.cell_text.specs.declared.fault.CellFault.{CellFault}
 use Rattle.cell_text.specs.declared.fault.CellFault.TheVariants.{TooManyAtoms, PositionRange, MomentRange, MetricTwice, MetricRange, NotPositive}
-use Rattle.cell_text.specs.Numbers.{Fraction, scaled, common_denominator, first_of, when}
-use Rattle.cell_text.specs.Lines.{same_word, metric_word, atom_word, end_word, begins_comment, is_skipped, is_heading, has_bad_byte, is_metric_line, is_atom_line, is_end_line}
+use Rattle.numbers.specs.Fraction.{Fraction}
+use Rattle.plain_text.specs.NumberWords.{scaled, common_denominator}
+use Rattle.plain_text.specs.FirstFaults.{first_of, when}
+use Rattle.cell_text.specs.Lines.{same_word, metric_word, atom_word, end_word, begins_comment, is_skipped, is_heading, is_metric_line, is_atom_line, is_end_line}
+use Rattle.plain_text.specs.Text.{has_bad_byte}
 use Rattle.cell_text.specs.Entries.{AtomLine, Contents, contents, positions, moments, is_billion, are_positions_in_range, are_moments_in_range}
 use Rattle.cell_text.specs.Rules.{same_place, same_place_from, later_fault, judged, fault_after, fault_at_end, first_fault}
 use Rattle.cell_text.specs.Views.{with_line, with_atom, with_metric, atom_faults, atom_line_faults, metric_line_faults, end_line_faults}
@@ -18,7 +21,7 @@ use Rattle.cell_text.proofs.Judging.{later-atom, later-metric, later-end, with-a
 use Rattle.cell_text.proofs.Stepping.{judged-later}
 use Rattle.cell_print.specs.CellFileText.{coordinates}
 use Rattle.cell_print.specs.Printable.{all_positions, all_moments, AreAtMost}
-use Rattle.cell_print.proofs.NumberWords.{reduced}
+use Rattle.plain_text.proofs.NumberWords.{reduced}
 use Rattle.cell_print.proofs.TextCuts.{line-no_bad_byte, number_texts}
 use Rattle.cell_print.proofs.CommonDenominators.{common_denominator-divides, scaled-smaller}
 use Rattle.cell_print.proofs.PrintedLines.{heading_line, metric_line, atom_line, atom_lines, name_of, IsPlain, moment_words, atom_line-words, metric_line-words, atom_line-bytes, metric_line-bytes}

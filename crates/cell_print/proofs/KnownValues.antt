@@ -1,23 +1,10 @@
--- Printed numbers and a printable cell, at a few values.
-use Rattle.std.proofs.Common.{◌≡◌, ◌++◌, List, [], ◌∷◌, ℕ, pos, negsuc, refl, ap₂, inr, lit<, arith}
-use Rattle.std.specs.Prelude.{codes}
+-- A printable cell.
+use Rattle.std.proofs.Common.{[], ◌∷◌, pos, negsuc, refl, inr, arith}
 use Rattle.std.proofs.lemmas.Int.{ints}
-use Rattle.std.proofs.lemmas.Fmt.{decimal_digit}
 use Rattle.numbers.specs.Gcd.{gcd}
 use Rattle.crystal_spec.specs.Moments.{axial_vectors}
 use Rattle.crystal_spec.specs.Crystals.{Structure}
-use Rattle.cell_print.specs.CellFileText.{number_text}
 use Rattle.cell_print.specs.Printable.{IsPrintable}
-
--- -6/4 is -3/2
-text_of_minus_six_quarters : number_text (negsuc 5) 4 ≡ codes "-3/2"
-unfolding number_text gcd
-text_of_minus_six_quarters = ap₂ (λ (p q : List ℕ). codes "-" ++ (p ++ (codes "/" ++ q))) (decimal_digit 3 (lit< tt)) (decimal_digit 2 (lit< tt))
-
--- 8/4 is 2
-text_of_eight_quarters : number_text (pos 8) 4 ≡ codes "2"
-unfolding number_text gcd
-text_of_eight_quarters = ap₂ (λ (p q : List ℕ). p ++ q) (decimal_digit 2 (lit< tt)) refl
 
 -- two species in an oblique cell, with a moment of one half along c
 oblique : Structure

@@ -13,57 +13,54 @@ use Rattle.std.proofs.Math.Nat.{div-mul_cancel, dvd-add, dvd-add_iff_left, dvd-m
 use Rattle.numbers.specs.Gcd.{gcd, lcm}
 use Rattle.numbers.specs.Residue.{residue}
 use Rattle.numbers.proofs.GcdLemmas.{gcd_is, gcd-swap, gauss, coprime-quotients, lcm_least, lcm-multiple_left, lcm-multiple_right}
-use Rattle.cell_text.specs.Numbers.{Fraction, signed, scaled, common_denominator, is_negative, decimal, numerator, denominator, number_value}
-use Rattle.cell_text.proofs.Multiples.{parts-positive, lcm-positive}
+use Rattle.numbers.specs.Fraction.{Fraction}
+use Rattle.plain_text.specs.NumberWords.{denominator_of, scaled, common_denominator, is_negative, numerator_part, denominator_part, number_value}
+use Rattle.plain_text.specs.Digits.{value_of_digits}
+use Rattle.plain_text.proofs.Multiples.{parts-positive, lcm-positive}
+use Rattle.plain_text.proofs.Signs.{signed-size, number_value-parts}
 use Rattle.cell_print.specs.Printable.{divisor_with}
 use Rattle.cell_print.proofs.CommonDenominators.{AllDivisible, one-divides, cancel}
 
 -- a positive denominator that has no divisor in common with the numerator
 pub record IsLowest (f : Fraction) : Type 0 where
-  pub positive : 0 < f.den
-  pub lowest : gcd (unsigned_abs f.num) f.den ≡ 1
+  pub positive : 0 < (denominator_of f)
+  pub lowest : gcd (unsigned_abs f.numerator) (denominator_of f) ≡ 1
 
 -- something holds of each
 abbrev pub Each : (Fraction → Type 0) → List Fraction → Type 0
 Each P [] = Unit {0}
 Each P (f ∷ fs) = P f × Each P fs
 
-signed_size : (negative : Bool) (a : ℕ) → unsigned_abs (signed negative a) ≡ a
-signed_size true zero = refl
-signed_size true (suc a) = refl
-signed_size false a = refl
-
 -- the value of a word is in lowest terms
-pub value_lowest : (w : List ℕ) → 0 < decimal (denominator w) → IsLowest (number_value w)
-unfolding number_value
+pub value_lowest : (w : List ℕ) → 0 < value_of_digits (denominator_part w) → IsLowest (number_value w)
 value_lowest w some =
-    let a = decimal (numerator w) in
-    let b = decimal (denominator w) in
-    record {
+    let a = value_of_digits (numerator_part w) in
+    let b = value_of_digits (denominator_part w) in
+    subst IsLowest (sym (number_value-parts w)) (record {
       positive = parts-positive a b some;
-      lowest = ap (λ (n : ℕ). gcd n (b / gcd a b)) (signed_size (is_negative w) (a / gcd a b)) ∙ coprime-quotients a b some;
-    }
+      lowest = ap (λ (n : ℕ). gcd n (b / gcd a b)) (signed-size (is_negative w) (a / gcd a b)) ∙ coprime-quotients a b some;
+    })
 
 -- ---- the least common multiple
 
 abbrev grown_by : ℕ → List Fraction → ℕ
-grown_by start fs = fold (λ d f. lcm d f.den) start fs
+grown_by start fs = fold (λ d f. lcm d (denominator_of f)) start fs
 
-grown-least : (m start : ℕ) (fs : List Fraction) → Each IsLowest fs → start ∣ m → Each (λ f. f.den ∣ m) fs → grown_by start fs ∣ m
+grown-least : (m start : ℕ) (fs : List Fraction) → Each IsLowest fs → start ∣ m → Each (λ f. (denominator_of f) ∣ m) fs → grown_by start fs ∣ m
 grown-least m start [] l h d = h
-grown-least m start (f ∷ fs) l h d = grown-least m (lcm start f.den) fs l.1 (lcm_least start f.den m l.0.positive h d.0) d.1
+grown-least m start (f ∷ fs) l h d = grown-least m (lcm start (denominator_of f)) fs l.1 (lcm_least start (denominator_of f) m l.0.positive h d.0) d.1
 
 grown-start : (start : ℕ) (fs : List Fraction) → start ∣ grown_by start fs
 grown-start start [] = dvd_refl start
-grown-start start (f ∷ fs) = dvd_trans start (lcm-multiple_left start f.den) (grown-start (lcm start f.den) fs)
+grown-start start (f ∷ fs) = dvd_trans start (lcm-multiple_left start (denominator_of f)) (grown-start (lcm start (denominator_of f)) fs)
 
-grown-parts : (start : ℕ) (fs : List Fraction) → Each (λ f. f.den ∣ grown_by start fs) fs
+grown-parts : (start : ℕ) (fs : List Fraction) → Each (λ f. (denominator_of f) ∣ grown_by start fs) fs
 grown-parts start [] = tt
-grown-parts start (f ∷ fs) = (dvd_trans f.den (lcm-multiple_right start f.den) (grown-start (lcm start f.den) fs), grown-parts (lcm start f.den) fs)
+grown-parts start (f ∷ fs) = (dvd_trans (denominator_of f) (lcm-multiple_right start (denominator_of f)) (grown-start (lcm start (denominator_of f)) fs), grown-parts (lcm start (denominator_of f)) fs)
 
 grown-positive : (start : ℕ) (fs : List Fraction) → 0 < start → Each IsLowest fs → 0 < grown_by start fs
 grown-positive start [] some l = some
-grown-positive start (f ∷ fs) some l = grown-positive (lcm start f.den) fs (lcm-positive start f.den some l.0.positive) l.1
+grown-positive start (f ∷ fs) some l = grown-positive (lcm start (denominator_of f)) fs (lcm-positive start (denominator_of f) some l.0.positive) l.1
 
 -- ---- a common divisor
 
@@ -75,17 +72,17 @@ turned g d t a q rest whole e f h =
     one ∙ ap (λ (n : ℕ). d * n) e ∙ two ∙ ap (λ (n : ℕ). a * n) (f ∙ sym h) ∙ three
 
 -- where g · rest is D, a denominator divides the rest
-part-divides_rest : (whole g rest : ℕ) (f : Fraction) → IsLowest f → 0 < g → g * rest ≡ whole → f.den ∣ whole → g ∣ unsigned_abs (scaled whole f) → f.den ∣ rest
+part-divides_rest : (whole g rest : ℕ) (f : Fraction) → IsLowest f → 0 < g → g * rest ≡ whole → (denominator_of f) ∣ whole → g ∣ unsigned_abs (scaled whole f) → (denominator_of f) ∣ rest
 part-divides_rest whole g rest f l some split part h =
-    let a = unsigned_abs f.num in
-    let q = whole / f.den in
-    let size : unsigned_abs (scaled whole f) ≡ a * q = unsigned_abs-mul f.num (pos q) in
+    let a = unsigned_abs f.numerator in
+    let q = whole / (denominator_of f) in
+    let size : unsigned_abs (scaled whole f) ≡ a * q = unsigned_abs-mul f.numerator (pos q) in
     let t = a * q / g in
     let times : t * g ≡ a * q = div-mul_cancel g (subst (λ n. g ∣ n) size h) in
-    let same : f.den * t ≡ a * rest = cancel g (f.den * t) (a * rest) some (turned g f.den t a q rest whole times (div-mul_cancel f.den part) split) in
-    gauss f.den a rest (gcd-swap f.den a ∙ l.lowest) (subst (λ n. f.den ∣ n) same (dvd-mul_right f.den t))
+    let same : (denominator_of f) * t ≡ a * rest = cancel g ((denominator_of f) * t) (a * rest) some (turned g (denominator_of f) t a q rest whole times (div-mul_cancel (denominator_of f) part) split) in
+    gauss (denominator_of f) a rest (gcd-swap (denominator_of f) a ∙ l.lowest) (subst (λ n. (denominator_of f) ∣ n) same (dvd-mul_right (denominator_of f) t))
 
-parts-divide_rest : (whole g rest : ℕ) (fs : List Fraction) → Each IsLowest fs → 0 < g → g * rest ≡ whole → Each (λ f. f.den ∣ whole) fs → Each (λ f. g ∣ unsigned_abs (scaled whole f)) fs → Each (λ f. f.den ∣ rest) fs
+parts-divide_rest : (whole g rest : ℕ) (fs : List Fraction) → Each IsLowest fs → 0 < g → g * rest ≡ whole → Each (λ f. (denominator_of f) ∣ whole) fs → Each (λ f. g ∣ unsigned_abs (scaled whole f)) fs → Each (λ f. (denominator_of f) ∣ rest) fs
 parts-divide_rest whole g rest [] l some split parts h = tt
 parts-divide_rest whole g rest (f ∷ fs) l some split parts h = (part-divides_rest whole g rest f l.0 some split parts.0 h.0, parts-divide_rest whole g rest fs l.1 some split parts.1 h.1)
 

@@ -1,5 +1,4 @@
 pub mod TextLemmas
-pub mod NumberWords
 pub mod TextCuts
 pub mod CommonDenominators
 pub mod LeastUnits

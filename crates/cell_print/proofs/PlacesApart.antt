@@ -13,9 +13,9 @@ use Rattle.ring.proofs.Solving.{by_ring}
 use Rattle.ring.proofs.IntRing.{int_laws}
 use Rattle.crystal_spec.specs.Crystals.{Site, Structure}
 use Rattle.crystal_spec.specs.Operations.{IsWithinCell}
-use Rattle.cell_text.specs.Numbers.{is_same_modulo_1}
+use Rattle.plain_text.specs.NumberWords.{denominator_of, is_same_modulo_1}
 use Rattle.cell_text.specs.Entries.{is_same_place}
-use Rattle.cell_print.proofs.NumberWords.{reduced}
+use Rattle.plain_text.proofs.NumberWords.{reduced}
 use Rattle.cell_print.proofs.CommonDenominators.{scaled-reduced, part-divides}
 use Rattle.cell_print.proofs.ReadLines.{entry}
 
@@ -48,18 +48,18 @@ same_modulo : (n x y : ℕ) → 0 < n → x < n → y < n → is_same_modulo_1 (
 same_modulo n x y some hx hy e =
     let f = reduced n (pos x) in
     let g = reduced n (pos y) in
-    let P = n / f.den in
-    let Q = n / g.den in
-    let D = unsigned_abs (f.num *ℤ pos g.den -ℤ g.num *ℤ pos f.den) in
-    let A_is : f.den * P ≡ n = turned (n / f.den) f.den n (div-mul_cancel f.den (part-divides n (pos x))) in
-    let B_is : g.den * Q ≡ n = turned (n / g.den) g.den n (div-mul_cancel g.den (part-divides n (pos y))) in
-    let divides = dvd_of_mod-eq-zero (f.den * g.den) (eqb-true (D % (f.den * g.den)) 0 e) in
-    let t = D / (f.den * g.den) in
-    let split : t * (f.den * g.den) ≡ D = div-mul_cancel (f.den * g.den) divides in
-    let integers = cross f.num g.num (pos f.den) (pos g.den) (pos P) (pos Q) (pos x) (pos y) (pos n) (scaled-reduced n (pos x) some) (scaled-reduced n (pos y) some) (ap pos A_is) (ap pos B_is) in
+    let P = n / (denominator_of f) in
+    let Q = n / (denominator_of g) in
+    let D = unsigned_abs (f.numerator *ℤ pos (denominator_of g) -ℤ g.numerator *ℤ pos (denominator_of f)) in
+    let A_is : (denominator_of f) * P ≡ n = turned (n / (denominator_of f)) (denominator_of f) n (div-mul_cancel (denominator_of f) (part-divides n (pos x))) in
+    let B_is : (denominator_of g) * Q ≡ n = turned (n / (denominator_of g)) (denominator_of g) n (div-mul_cancel (denominator_of g) (part-divides n (pos y))) in
+    let divides = dvd_of_mod-eq-zero ((denominator_of f) * (denominator_of g)) (eqb-true (D % ((denominator_of f) * (denominator_of g))) 0 e) in
+    let t = D / ((denominator_of f) * (denominator_of g)) in
+    let split : t * ((denominator_of f) * (denominator_of g)) ≡ D = div-mul_cancel ((denominator_of f) * (denominator_of g)) divides in
+    let integers = cross f.numerator g.numerator (pos (denominator_of f)) (pos (denominator_of g)) (pos P) (pos Q) (pos x) (pos y) (pos n) (scaled-reduced n (pos x) some) (scaled-reduced n (pos y) some) (ap pos A_is) (ap pos B_is) in
     let sizes : D * (P * Q) ≡ unsigned_abs (pos x -ℤ pos y) * n =
-    sym (unsigned_abs-mul (f.num *ℤ pos g.den -ℤ g.num *ℤ pos f.den) (pos P *ℤ pos Q)) ∙ ap unsigned_abs integers ∙ unsigned_abs-mul (pos x -ℤ pos y) (pos n) in
-    near n x y t hx hy (cancel n (t * n) (unsigned_abs (pos x -ℤ pos y)) some (squares t D f.den g.den P Q n (unsigned_abs (pos x -ℤ pos y)) split A_is B_is sizes))
+    sym (unsigned_abs-mul (f.numerator *ℤ pos (denominator_of g) -ℤ g.numerator *ℤ pos (denominator_of f)) (pos P *ℤ pos Q)) ∙ ap unsigned_abs integers ∙ unsigned_abs-mul (pos x -ℤ pos y) (pos n) in
+    near n x y t hx hy (cancel n (t * n) (unsigned_abs (pos x -ℤ pos y)) some (squares t D (denominator_of f) (denominator_of g) P Q n (unsigned_abs (pos x -ℤ pos y)) split A_is B_is sizes))
   where
     turned : (q g n : ℕ) → q * g ≡ n → g * q ≡ n
     turned q g n e = omega (arith, e)

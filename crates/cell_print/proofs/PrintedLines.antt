@@ -9,10 +9,11 @@ use Rattle.std.proofs.lemmas.List.Folds.{list_all-append}
 use Rattle.crystal_spec.specs.Matrices.{Triple}
 use Rattle.crystal_spec.specs.Crystals.{Site, Structure}
 use Rattle.crystal.specs.Names.{is_name, is_name_byte, are_name_bytes}
-use Rattle.cell_text.specs.Text.{lines, words}
+use Rattle.plain_text.specs.Text.{lines, words}
 use Rattle.cell_text.specs.Lines.{metric_word, atom_word, end_word}
-use Rattle.cell_print.specs.CellFileText.{numbers_text, scalar_products, coordinates, position_text, is_nothing, moment_text, atom_text, atoms_text, cell_file_text}
-use Rattle.cell_print.proofs.NumberWords.{is_word_byte, IsWord}
+use Rattle.plain_text.specs.NumberText.{numbers_text}
+use Rattle.cell_print.specs.CellFileText.{scalar_products, coordinates, position_text, is_nothing, moment_text, atom_text, atoms_text, cell_file_text}
+use Rattle.plain_text.proofs.NumberWords.{is_word_byte, IsWord}
 use Rattle.cell_print.proofs.TextCuts.{AreSmall, Follows, follows_end, follows_numbers, number_texts, is_line_byte, lines_line, word-line_bytes, numbers-line_bytes, words_cut}
 
 -- ---- names

@@ -8,14 +8,18 @@ use Rattle.crystal_spec.specs.Matrices.{Triple, Matrix}
 use Rattle.crystal_spec.specs.Crystals.{Site, Structure, IsPositive}
 use Rattle.crystal.specs.Cells.{IsSymmetric}
 use Rattle.crystal.specs.Names.{is_name}
-use Rattle.cell_text.specs.Numbers.{Fraction, scaled, common_denominator, first_of, number_fault, number_value}
-use Rattle.cell_text.specs.Text.{words}
-use Rattle.cell_text.specs.Lines.{same_word, metric_word, atom_word, is_metric_line, is_atom_line}
+use Rattle.numbers.specs.Fraction.{Fraction}
+use Rattle.plain_text.specs.NumberWords.{scaled, common_denominator, number_value}
+use Rattle.plain_text.specs.FirstFaults.{first_of}
+use Rattle.cell_text.specs.Lines.{word_fault, same_word, metric_word, atom_word, is_metric_line, is_atom_line}
+use Rattle.plain_text.specs.Text.{words}
 use Rattle.cell_text.specs.Entries.{AtomLine, ScaledMetric, atom_of, metric_of, symmetric, metric_values, is_billion, is_metric_in_range, is_positive}
 use Rattle.cell_text.specs.Readers.{scaled_tensor}
 use Rattle.cell_print.specs.CellFileText.{scalar_products, coordinates, is_zero, is_nothing}
 use Rattle.cell_print.specs.Printable.{divisor_with, AreAtMost}
-use Rattle.cell_print.proofs.NumberWords.{reduced, number_text-value, number_text-no_fault}
+use Rattle.plain_text.specs.NumberText.{number_text}
+use Rattle.cell_text.proofs.WordFaults.{word_passes}
+use Rattle.plain_text.proofs.NumberWords.{reduced, number_text-value, number_text-no_fault}
 use Rattle.cell_print.proofs.TextCuts.{AreSmall, number_texts}
 use Rattle.cell_print.proofs.CommonDenominators.{common_denominator-reduced, scaled-reduced, reduced-zero}
 use Rattle.cell_print.proofs.PrintedLines.{metric_line, atom_line, name_of, moment_words, IsPlain, atom_line-words, metric_line-words}
@@ -29,9 +33,9 @@ number_texts-values d (z ∷ zs) some h small =
     ap (λ (f : Fraction). f ∷ map number_value (number_texts d zs)) (number_text-value z d some small.0 h) ∙ ap (λ (fs : List Fraction). reduced d z ∷ fs) (number_texts-values d zs some h small.1)
 
 -- No printed number has a fault.
-pub number_texts-no_fault : (d : ℕ) (zs : List ℤ) (ws : List (List ℕ)) → 0 < d → d < 10 ^ 18 → AreSmall zs → first_of (map number_fault ws) ≡ None → first_of (map number_fault (number_texts d zs ++ ws)) ≡ None
+pub number_texts-no_fault : (d : ℕ) (zs : List ℤ) (ws : List (List ℕ)) → 0 < d → d < 10 ^ 18 → AreSmall zs → first_of (map word_fault ws) ≡ None → first_of (map word_fault (number_texts d zs ++ ws)) ≡ None
 number_texts-no_fault d [] ws some h small e = e
-number_texts-no_fault d (z ∷ zs) ws some h small e = rw (number_text-no_fault z d some small.0 h) (number_texts-no_fault d zs ws some h small.1 e)
+number_texts-no_fault d (z ∷ zs) ws some h small e = rw (word_passes (number_text z d) (number_text-no_fault z d some small.0 h)) (number_texts-no_fault d zs ws some h small.1 e)
 
 -- ---- the metric line
 
@@ -109,9 +113,9 @@ unfolding is_metric_line
 metric_line-is c h = ap (λ (ws : List (List ℕ)). same_word (get_or ws 0 []) metric_word && length ws == 7) (metric_line-words c (omega (arith, h.small_scale)) h.small)
 
 -- Its words are numbers.
-pub metric_line-no_fault : (c : Structure) → IsPlainMetric c → first_of (map number_fault (drop 1 (words (metric_line c)))) ≡ None
+pub metric_line-no_fault : (c : Structure) → IsPlainMetric c → first_of (map word_fault (drop 1 (words (metric_line c)))) ≡ None
 metric_line-no_fault c h =
-    ap (λ (ws : List (List ℕ)). first_of (map number_fault (drop 1 ws))) (metric_line-words c (omega (arith, h.small_scale)) h.small)
+    ap (λ (ws : List (List ℕ)). first_of (map word_fault (drop 1 ws))) (metric_line-words c (omega (arith, h.small_scale)) h.small)
     ∙ number_texts-no_fault (unsigned_abs c.scale) (scalar_products c.metric) [] h.some (omega (arith, h.small_scale)) h.small refl
 
 -- ---- atom lines
@@ -173,12 +177,12 @@ atom_line-read c s units plain =
     ∙ ap (λ (ms : List Fraction). of_values (name_of c s) (map (reduced c.n) (coordinates s.position)) ms) (moment_words-values c.k s.moment units.some_k (omega (arith, units.small_k)) plain.moment)
 
 -- Its words behind the name are numbers.
-pub atom_line-no_fault : (c : Structure) (s : Site) → HasUnits c → IsPlain c s → first_of (map number_fault (drop 2 (words (atom_line c s)))) ≡ None
+pub atom_line-no_fault : (c : Structure) (s : Site) → HasUnits c → IsPlain c s → first_of (map word_fault (drop 2 (words (atom_line c s)))) ≡ None
 atom_line-no_fault c s units plain =
-    ap (λ (ws : List (List ℕ)). first_of (map number_fault (drop 2 ws))) (atom_line-words c s (omega (arith, units.small_n)) (omega (arith, units.small_k)) plain)
+    ap (λ (ws : List (List ℕ)). first_of (map word_fault (drop 2 ws))) (atom_line-words c s (omega (arith, units.small_n)) (omega (arith, units.small_k)) plain)
     ∙ number_texts-no_fault c.n (coordinates s.position) (moment_words c.k s.moment) units.some_n (omega (arith, units.small_n)) plain.position (by (is_nothing s.moment))
   where
-    by : (b : Bool) → first_of (map number_fault (if b then [] else number_texts c.k (coordinates s.moment))) ≡ None
+    by : (b : Bool) → first_of (map word_fault (if b then [] else number_texts c.k (coordinates s.moment))) ≡ None
     by true = refl
     by false = number_texts-no_fault c.k (coordinates s.moment) [] units.some_k (omega (arith, units.small_k)) plain.moment refl
 

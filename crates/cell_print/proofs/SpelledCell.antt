@@ -13,13 +13,13 @@ use Rattle.crystal_spec.specs.Crystals.{Site, Structure}
 use Rattle.crystal.specs.Names.{is_name}
 use Rattle.crystal.specs.Occupants.{NoneAt}
 use Rattle.crystal.specs.Cells.{IsCellWithinLimits, IsSiteOf, AreSitesOf, AreApart}
-use Rattle.cell_text.specs.Numbers.{scaled, common_denominator}
+use Rattle.plain_text.specs.NumberWords.{scaled, common_denominator}
 use Rattle.cell_text.specs.Entries.{positions, moments}
 use Rattle.cell_text.specs.Rules.{first_fault, cell_fault}
 use Rattle.cell_text.specs.CellFile.{with_name, names_of, number_of, part_of, site_of, cell_with, cell_of, Spells}
 use Rattle.cell_print.specs.CellFileText.{scalar_products, cell_file_text}
 use Rattle.cell_print.specs.Printable.{all_positions, all_moments, AreAtMost, IsPrintable}
-use Rattle.cell_print.proofs.NumberWords.{reduced}
+use Rattle.plain_text.proofs.NumberWords.{reduced}
 use Rattle.cell_print.proofs.TextCuts.{AreSmall}
 use Rattle.cell_print.proofs.CommonDenominators.{common_denominator-reduced, scaled-reduced}
 use Rattle.cell_print.proofs.NamesRead.{number-of_name, names_behind, AreBelow, names-by_first_use}

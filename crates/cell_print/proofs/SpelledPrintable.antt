@@ -12,10 +12,15 @@ use Rattle.crystal_spec.specs.Crystals.{Structure}
 use Rattle.crystal.specs.Names.{is_name}
 use Rattle.crystal.specs.Numbering.{AreByFirstUse}
 use Rattle.cell_text.specs.declared.fault.CellFault.{CellFault}
-use Rattle.cell_text.specs.declared.fault.CellFault.TheVariants.{BadNumber, NumberRange, ZeroDenominator, MetricMissing}
-use Rattle.cell_text.specs.Text.{lines, words}
-use Rattle.cell_text.specs.Numbers.{Fraction, common_denominator, scaled, when, or_else, first_of, is_digits, decimal, numerator, denominator, number_fault}
-use Rattle.cell_text.specs.Lines.{same_word, word_at, value_at, is_metric_line, is_atom_line, is_end_line, number_words}
+use Rattle.cell_text.specs.declared.fault.CellFault.TheVariants.{MetricMissing}
+use Rattle.plain_text.specs.declared.fault.NumberFault.{NumberFault}
+use Rattle.plain_text.specs.declared.fault.NumberFault.TheVariants.{BadNumber, NumberRange, ZeroDenominator}
+use Rattle.plain_text.specs.Text.{lines, words}
+use Rattle.numbers.specs.Fraction.{Fraction}
+use Rattle.plain_text.specs.NumberWords.{common_denominator, scaled, numerator_part, denominator_part, number_fault}
+use Rattle.plain_text.specs.FirstFaults.{when, or_else, first_of}
+use Rattle.plain_text.specs.Digits.{is_digits, value_of_digits}
+use Rattle.cell_text.specs.Lines.{word_fault, same_word, word_at, value_at, is_metric_line, is_atom_line, is_end_line, number_words}
 use Rattle.cell_text.specs.Entries.{AtomLine, ScaledMetric, Contents, atom_of, metric_of, metric_values, scale_of_line, scaled_at, contents, positions, moments, is_billion, is_metric_in_range, are_moments_in_range, one_if}
 use Rattle.cell_text.specs.Rules.{later_fault}
 use Rattle.cell_text.specs.Views.{with_line}
@@ -23,6 +28,7 @@ use Rattle.cell_text.specs.CellFile.{Spells, cell_with, with_name, names_of, sit
 use Rattle.cell_text.proofs.Judging.{metric-no_atom, atom_named}
 use Rattle.cell_text.proofs.MetricLines.{six}
 use Rattle.cell_text.proofs.NameLemmas.{with-old, with-new, spelled_numbered}
+use Rattle.cell_text.proofs.WordFaults.{number_passes}
 use Rattle.cell_text.proofs.PassedLines.{later_faults, all_none, metric_fits, moments_fit, text_holds, text_ends}
 use Rattle.cell_print.specs.CellFileText.{scalar_products}
 use Rattle.cell_print.specs.Printable.{divisor_with, all_positions, all_moments, AreAtMost, IsPrintable}
@@ -32,55 +38,55 @@ use Rattle.cell_print.proofs.LeastUnits.{IsLowest, Each, value_lowest, least_uni
 -- ---- the numbers of a line
 
 -- the rules of a number word
-abbrev number_faults : List ℕ → List (Option CellFault)
+abbrev number_faults : List ℕ → List (Option NumberFault)
 number_faults word =
-    when (not (is_digits (numerator word) && is_digits (denominator word))) BadNumber
-    ∷ when (nat_lt 18 (length (numerator word)) || nat_lt 18 (length (denominator word))) NumberRange
-    ∷ when (decimal (denominator word) == 0) ZeroDenominator
+    when (not (is_digits (numerator_part word) && is_digits (denominator_part word))) BadNumber
+    ∷ when (nat_lt 18 (length (numerator_part word)) || nat_lt 18 (length (denominator_part word))) NumberRange
+    ∷ when (value_of_digits (denominator_part word) == 0) ZeroDenominator
     ∷ []
 
 nonzero : (n : ℕ) → when (n == 0) ZeroDenominator ≡ None → 0 < n
 nonzero zero e = absurd cc
 nonzero (suc n) e = omega arith
 
-number_positive : (w : List ℕ) → number_fault w ≡ None → 0 < decimal (denominator w)
+number_positive : (w : List ℕ) → number_fault w ≡ None → 0 < value_of_digits (denominator_part w)
 unfolding number_fault
-number_positive w e = nonzero (decimal (denominator w)) (all_none (number_faults w) 2 e)
+number_positive w e = nonzero (value_of_digits (denominator_part w)) (all_none (number_faults w) 2 e)
 
 rest_none : (f r : Option CellFault) → or_else f r ≡ None → r ≡ None
 rest_none None r e = e
 rest_none (Some f) r e = absurd cc
 
 -- a word that is not there is 0/1
-none_positive : 0 < decimal (denominator [])
-none_positive = let one : decimal (denominator []) ≡ 1 = refl in omega (arith, one)
+none_positive : 0 < value_of_digits (denominator_part [])
+none_positive = let one : value_of_digits (denominator_part []) ≡ 1 = refl in omega (arith, one)
 
-each_positive : (ws : List (List ℕ)) (i : ℕ) → first_of (map number_fault ws) ≡ None → 0 < decimal (denominator (get_or ws i []))
+each_positive : (ws : List (List ℕ)) (i : ℕ) → first_of (map word_fault ws) ≡ None → 0 < value_of_digits (denominator_part (get_or ws i []))
 each_positive [] i e = none_positive
-each_positive (w ∷ ws) zero e = number_positive w (all_none (map number_fault (w ∷ ws)) 0 e)
-each_positive (w ∷ ws) (suc i) e = each_positive ws i (rest_none (number_fault w) (first_of (map number_fault ws)) e)
+each_positive (w ∷ ws) zero e = number_positive w (number_passes w (all_none (map word_fault (w ∷ ws)) 0 e))
+each_positive (w ∷ ws) (suc i) e = each_positive ws i (rest_none (word_fault w) (first_of (map word_fault ws)) e)
 
-behind_one : (ws : List (List ℕ)) (i : ℕ) → first_of (map number_fault (drop 1 ws)) ≡ None → 0 < decimal (denominator (get_or ws (suc i) []))
+behind_one : (ws : List (List ℕ)) (i : ℕ) → first_of (map word_fault (drop 1 ws)) ≡ None → 0 < value_of_digits (denominator_part (get_or ws (suc i) []))
 behind_one [] i e = none_positive
 behind_one (w ∷ ws) i e = each_positive ws i e
 
-behind_two : (ws : List (List ℕ)) (i : ℕ) → first_of (map number_fault (drop 2 ws)) ≡ None → 0 < decimal (denominator (get_or ws (suc (suc i)) []))
+behind_two : (ws : List (List ℕ)) (i : ℕ) → first_of (map word_fault (drop 2 ws)) ≡ None → 0 < value_of_digits (denominator_part (get_or ws (suc (suc i)) []))
 behind_two [] i e = none_positive
 behind_two (v ∷ []) i e = none_positive
 behind_two (v ∷ w ∷ ws) i e = each_positive ws i e
 
-metric_numbers : (held : Contents) (line : List ℕ) → later_fault held line ≡ None → is_metric_line line ≡ true → first_of (map number_fault (drop 1 (words line))) ≡ None
+metric_numbers : (held : Contents) (line : List ℕ) → later_fault held line ≡ None → is_metric_line line ≡ true → first_of (map word_fault (drop 1 (words line))) ≡ None
 unfolding later_fault number_words
 metric_numbers held line e h =
-    subst (λ (b : Bool). first_of (map number_fault (if b then drop 1 (words line) else if is_atom_line line then drop 2 (words line) else [])) ≡ None) h (all_none (later_faults held line) 5 e)
+    subst (λ (b : Bool). first_of (map word_fault (if b then drop 1 (words line) else if is_atom_line line then drop 2 (words line) else [])) ≡ None) h (all_none (later_faults held line) 5 e)
 
-atom_numbers : (held : Contents) (line : List ℕ) → later_fault held line ≡ None → is_atom_line line ≡ true → first_of (map number_fault (drop 2 (words line))) ≡ None
+atom_numbers : (held : Contents) (line : List ℕ) → later_fault held line ≡ None → is_atom_line line ≡ true → first_of (map word_fault (drop 2 (words line))) ≡ None
 unfolding later_fault number_words
 atom_numbers held line e h = by (is_metric_line line) refl (all_none (later_faults held line) 5 e)
   where
-    by : (b : Bool) → is_metric_line line ≡ b → first_of (map number_fault (if b then drop 1 (words line) else if is_atom_line line then drop 2 (words line) else [])) ≡ None → first_of (map number_fault (drop 2 (words line))) ≡ None
+    by : (b : Bool) → is_metric_line line ≡ b → first_of (map word_fault (if b then drop 1 (words line) else if is_atom_line line then drop 2 (words line) else [])) ≡ None → first_of (map word_fault (drop 2 (words line))) ≡ None
     by true m f = absurd (cc (metric-no_atom line m, h))
-    by false m f = subst (λ (b : Bool). first_of (map number_fault (if b then drop 2 (words line) else [])) ≡ None) h f
+    by false m f = subst (λ (b : Bool). first_of (map word_fault (if b then drop 2 (words line) else [])) ≡ None) h f
 
 -- ---- what the contents are
 

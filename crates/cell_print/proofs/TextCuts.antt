@@ -4,10 +4,9 @@ use Rattle.std.specs.Prelude.{ℤ, unsigned_abs, ◌&&◌, ◌||◌, ◌==◌, n
 use Rattle.std.specs.List.{list_all, list_any}
 use Rattle.std.proofs.lemmas.Bool.{ne_eqb, le-leb, leb-true, and_parts, and_from, or_from, or_right, not_from_true}
 use Rattle.std.proofs.lemmas.List.Folds.{list_all-append}
-use Rattle.cell_text.specs.Text.{lines, pieces, byte_then, without_return, words, is_blank, begins_word}
-use Rattle.cell_text.specs.Lines.{is_bad_byte, has_bad_byte}
-use Rattle.cell_print.specs.CellFileText.{number_text, numbers_text}
-use Rattle.cell_print.proofs.NumberWords.{is_word_byte, IsWord, number_text-is_word}
+use Rattle.plain_text.specs.Text.{lines, pieces, byte_then, without_return, words, is_blank, begins_word, is_bad_byte, has_bad_byte}
+use Rattle.plain_text.specs.NumberText.{number_text, numbers_text}
+use Rattle.plain_text.proofs.NumberWords.{is_word_byte, IsWord, number_text-is_word}
 
 -- ---- words
 
@@ -24,7 +23,7 @@ words_last (b ∷ []) h e =
 words_last (b ∷ c ∷ w) h e =
     let p = and_parts (is_word_byte b) (list_all is_word_byte (c ∷ w)) e in
     let q = and_parts (is_word_byte c) (list_all is_word_byte w) p.1 in
-    let next : begins_word (c ∷ w) ≡ true = ap not (not_blank c q.0) in
+    let next : begins_word is_blank (c ∷ w) ≡ true = ap not (not_blank c q.0) in
     let deeper = words_last (c ∷ w) (omega arith) p.1 in
     rw (not_blank b p.0, next, deeper) refl
 
@@ -37,7 +36,7 @@ words_cut (b ∷ []) line h e =
 words_cut (b ∷ c ∷ w) line h e =
     let p = and_parts (is_word_byte b) (list_all is_word_byte (c ∷ w)) e in
     let q = and_parts (is_word_byte c) (list_all is_word_byte w) p.1 in
-    let next : begins_word (c ∷ (w ++ 32 ∷ line)) ≡ true = ap not (not_blank c q.0) in
+    let next : begins_word is_blank (c ∷ (w ++ 32 ∷ line)) ≡ true = ap not (not_blank c q.0) in
     let deeper = words_cut (c ∷ w) line (omega arith) p.1 in
     rw (not_blank b p.0, next, deeper) refl
 

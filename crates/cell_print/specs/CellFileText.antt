@@ -1,8 +1,6 @@
 -- The cell file that is printed of a cell. The lines are `magcell 1`, the metric line, one line an atom in order, and
 -- `end`, with single spaces and LF at the end of each. Each number is in lowest terms, as `p` or `p/q` with q of at least
 -- 2, behind a `-` where it is negative. A moment of 0 0 0 is left out.
---   number_text z d        z/d in lowest terms
---   numbers_text d zs      these numbers in units of 1/d, each behind a space
 --   metric_text d g        the metric line of a metric tensor g in units of 1/d
 --   position_text n p      a position in units of 1/n
 --   moment_text k m        a moment in units of 1/k, or nothing where it is 0
@@ -10,31 +8,10 @@
 --   cell_lines_text c      the lines of a cell behind the first
 --   cell_file_text c       the text of a cell
 -- The format is our own.
-use Rattle.std.specs.Prelude.{ℕ, zero, suc, ◌/◌, ℤ, pos, negsuc, Bool, true, false, ◌&&◌, List, [], ◌∷◌, ◌++◌, codes, get_or, unsigned_abs, if◌then◌else◌}
-use Rattle.std.specs.Fmt.{decimal}
-use Rattle.numbers.specs.Gcd.{gcd}
+use Rattle.std.specs.Prelude.{ℕ, zero, suc, ℤ, pos, negsuc, Bool, true, false, ◌&&◌, List, [], ◌∷◌, ◌++◌, codes, get_or, unsigned_abs, if◌then◌else◌}
 use Rattle.crystal_spec.specs.Matrices.{Triple, Matrix}
 use Rattle.crystal_spec.specs.Crystals.{Site, Structure}
-
--- a slash and the denominator, or nothing where it is 1
-abbrev pub denominator_text : ℕ → List ℕ
-denominator_text zero = []
-denominator_text (suc zero) = []
-denominator_text (suc (suc d)) = codes "/" ++ decimal (suc (suc d))
-
--- a/b in lowest terms
-abbrev pub size_text : ℕ → ℕ → List ℕ
-size_text a b = decimal (a / gcd a b) ++ denominator_text (b / gcd a b)
-
--- z/d in lowest terms
-unfoldable pub number_text : ℤ → ℕ → List ℕ
-number_text (pos a) d = size_text a d
-number_text (negsuc a) d = codes "-" ++ size_text (suc a) d
-
--- the numbers in units of 1/d, a space before each
-abbrev pub numbers_text : ℕ → List ℤ → List ℕ
-numbers_text d [] = []
-numbers_text d (z ∷ zs) = 32 ∷ number_text z d ++ numbers_text d zs
+use Rattle.plain_text.specs.NumberText.{numbers_text}
 
 -- the six scalar products of the axes: a·a, b·b, c·c, b·c, a·c and a·b
 abbrev pub scalar_products : Matrix → List ℤ

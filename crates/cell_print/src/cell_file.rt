@@ -4,17 +4,21 @@ ghost use Rattle.crystal_spec.specs.Crystals.{Structure};
 ghost use Rattle.crystal.specs.Views.{metric_of, site_of, triple_of};
 ghost use Rattle.cell_text.specs.CellFile.{Spells};
 ghost use Rattle.cell_print.specs.Printable.{IsPrintable};
-ghost use Rattle.cell_print.specs.CellFileText.{scalar_products, numbers_text, position_text, metric_text, moment_text, atom_text, atoms_text, cell_lines_text, cell_file_text};
+ghost use Rattle.cell_print.specs.CellFileText.{scalar_products, position_text, metric_text, moment_text, atom_text, atoms_text, cell_lines_text, cell_file_text};
+ghost use Rattle.plain_text.specs.NumberText.{numbers_text};
 
-use crate::fractions::push_numbers;
 use crystal::{Atom, Cell, Metric, Name};
 use exact_num::Int;
 use io_edge::Bytes;
 use matrix3::Vec3;
+use plain_text::push_numbers;
 use std::alloc::{AllocError, Global};
 
-/// Adds the six scalar products of the axes, of a metric tensor in units of 1/scale.
-fn push_products(
+/// Adds the six scalar products of the axes, of a metric tensor in units of 1/scale, a space before each.
+///
+/// Each is in lowest terms, in the order a·a, b·b, c·c, b·c, a·c, a·b. Asks that the scale is at least 1. Refuses for want of
+/// memory alone; what is added then is left open.
+pub fn push_products(
     alloc: Global,
     out: &mut Bytes,
     scale: u128,
@@ -51,8 +55,8 @@ fn push_metric(
     Ok(())
 }
 
-/// Adds a name.
-fn push_name(out: &mut Bytes, name: &Name) -> Result<(), AllocError>
+/// Adds a name. Refuses for want of memory alone; what is added then is left open.
+pub fn push_name(out: &mut Bytes, name: &Name) -> Result<(), AllocError>
     ensures { OnOk result (out.new ≡ out.old ++ name.now) }
 {
     for i in 0..name.count() {

@@ -5,9 +5,8 @@
 #![tactic(auto)]
 
 mod cell_file;
-mod fractions;
 
-pub use cell_file::{print_cell, push_cell, spelled_is_printable};
+pub use cell_file::{print_cell, push_cell, push_name, push_products, spelled_is_printable};
 
 #[cfg(test)]
 mod tests;

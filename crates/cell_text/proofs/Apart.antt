@@ -21,7 +21,8 @@ use Rattle.numbers.proofs.GcdLemmas.{lcm-multiple_left, lcm-multiple_right}
 use Rattle.numbers.proofs.ResidueRing.{residue_splits}
 use Rattle.crystal_spec.specs.Matrices.{Triple}
 use Rattle.crystal.specs.Occupants.{NoneAt}
-use Rattle.cell_text.specs.Numbers.{Fraction, scaled, is_same_modulo_1}
+use Rattle.numbers.specs.Fraction.{Fraction}
+use Rattle.plain_text.specs.NumberWords.{denominator_of, scaled, is_same_modulo_1}
 use Rattle.cell_text.specs.Entries.{AtomLine, positions, is_same_place}
 use Rattle.cell_text.specs.CellFile.{site_of, position_of}
 use Rattle.cell_text.specs.Views.{AreApart}
@@ -49,16 +50,16 @@ multiple_of p d t w h e =
     ap (λ (m : ℕ). m % w) (cancel p (unsigned_abs d) (unsigned_abs t * w) h sizes) ∙ mul-mod_left (unsigned_abs t) w
 
 -- the same part of 1/n
-pub same_part : (n : ℕ) (f g : Fraction) → 0 < n → f.den ∣ n → g.den ∣ n → residue n (scaled n f) ≡ residue n (scaled n g) → is_same_modulo_1 f g ≡ true
+pub same_part : (n : ℕ) (f g : Fraction) → 0 < n → (denominator_of f) ∣ n → (denominator_of g) ∣ n → residue n (scaled n f) ≡ residue n (scaled n g) → is_same_modulo_1 f g ≡ true
 same_part n f g h hf hg e =
-    let P = n / f.den in
-    let Q = n / g.den in
-    let p : P * f.den ≡ n = div-mul_cancel f.den hf in
-    let q : Q * g.den ≡ n = div-mul_cancel g.den hg in
+    let P = n / (denominator_of f) in
+    let Q = n / (denominator_of g) in
+    let p : P * (denominator_of f) ≡ n = div-mul_cancel (denominator_of f) hf in
+    let q : Q * (denominator_of g) ≡ n = div-mul_cancel (denominator_of g) hg in
     let u = residue_splits n (scaled n f) in
     let v = residue_splits n (scaled n g) in
-    let both = products f.num g.num (pos P) (pos Q) (pos f.den) (pos g.den) (pos n) u.0 v.0 (ap pos p) (ap pos q) (sym u.1 ∙ e ∙ v.1) in
-    eq-eqb _ 0 (multiple_of (P * Q) _ (v.0 -ℤ u.0) (f.den * g.den) (mul-pos (up P f.den n p h) (up Q g.den n q h)) both)
+    let both = products f.numerator g.numerator (pos P) (pos Q) (pos (denominator_of f)) (pos (denominator_of g)) (pos n) u.0 v.0 (ap pos p) (ap pos q) (sym u.1 ∙ e ∙ v.1) in
+    eq-eqb _ 0 (multiple_of (P * Q) _ (v.0 -ℤ u.0) ((denominator_of f) * (denominator_of g)) (mul-pos (up P (denominator_of f) n p h) (up Q (denominator_of g) n q h)) both)
   where
     up : (q g b : ℕ) → q * g ≡ b → 0 < b → 0 < q
     up zero g b e h = absurd (omega arith)
@@ -67,32 +68,32 @@ same_part n f g h hf hg e =
 -- ---- the denominators of positions divide n
 
 pub record Divides (n : ℕ) (a : AtomLine) : Type 0 where
-  pub x : a.x.den ∣ n
-  pub y : a.y.den ∣ n
-  pub z : a.z.den ∣ n
+  pub x : (denominator_of a.x) ∣ n
+  pub y : (denominator_of a.y) ∣ n
+  pub z : (denominator_of a.z) ∣ n
 
 abbrev pub AllDivide : ℕ → List AtomLine → Type 0
 AllDivide n [] = Unit {0}
 AllDivide n (a ∷ held) = Divides n a × AllDivide n held
 
 abbrev grow : ℕ → AtomLine → ℕ
-grow d a = lcm (lcm (lcm d a.x.den) a.y.den) a.z.den
+grow d a = lcm (lcm (lcm d (denominator_of a.x)) (denominator_of a.y)) (denominator_of a.z)
 
-from_start : (d : ℕ) (held : List AtomLine) → d ∣ fold (λ d f. lcm d f.den) d (positions held)
+from_start : (d : ℕ) (held : List AtomLine) → d ∣ fold (λ d f. lcm d (denominator_of f)) d (positions held)
 unfolding positions
 from_start d [] = dvd_refl d
 from_start d (a ∷ held) =
-    dvd_trans d (lcm-multiple_left d a.x.den) (dvd_trans (lcm d a.x.den) (lcm-multiple_left (lcm d a.x.den) a.y.den) (dvd_trans (lcm (lcm d a.x.den) a.y.den) (lcm-multiple_left (lcm (lcm d a.x.den) a.y.den) a.z.den) (from_start (grow d a) held)))
+    dvd_trans d (lcm-multiple_left d (denominator_of a.x)) (dvd_trans (lcm d (denominator_of a.x)) (lcm-multiple_left (lcm d (denominator_of a.x)) (denominator_of a.y)) (dvd_trans (lcm (lcm d (denominator_of a.x)) (denominator_of a.y)) (lcm-multiple_left (lcm (lcm d (denominator_of a.x)) (denominator_of a.y)) (denominator_of a.z)) (from_start (grow d a) held)))
 
-pub all_divide : (d : ℕ) (held : List AtomLine) → AllDivide (fold (λ d f. lcm d f.den) d (positions held)) held
+pub all_divide : (d : ℕ) (held : List AtomLine) → AllDivide (fold (λ d f. lcm d (denominator_of f)) d (positions held)) held
 unfolding positions
 all_divide d [] = tt
 all_divide d (a ∷ held) =
     let start = from_start (grow d a) held in
-    let z = dvd_trans a.z.den (lcm-multiple_right (lcm (lcm d a.x.den) a.y.den) a.z.den) start in
-    let two = dvd_trans (lcm (lcm d a.x.den) a.y.den) (lcm-multiple_left (lcm (lcm d a.x.den) a.y.den) a.z.den) start in
-    let y = dvd_trans a.y.den (lcm-multiple_right (lcm d a.x.den) a.y.den) two in
-    let x = dvd_trans a.x.den (lcm-multiple_right d a.x.den) (dvd_trans (lcm d a.x.den) (lcm-multiple_left (lcm d a.x.den) a.y.den) two) in
+    let z = dvd_trans (denominator_of a.z) (lcm-multiple_right (lcm (lcm d (denominator_of a.x)) (denominator_of a.y)) (denominator_of a.z)) start in
+    let two = dvd_trans (lcm (lcm d (denominator_of a.x)) (denominator_of a.y)) (lcm-multiple_left (lcm (lcm d (denominator_of a.x)) (denominator_of a.y)) (denominator_of a.z)) start in
+    let y = dvd_trans (denominator_of a.y) (lcm-multiple_right (lcm d (denominator_of a.x)) (denominator_of a.y)) two in
+    let x = dvd_trans (denominator_of a.x) (lcm-multiple_right d (denominator_of a.x)) (dvd_trans (lcm d (denominator_of a.x)) (lcm-multiple_left (lcm d (denominator_of a.x)) (denominator_of a.y)) two) in
     (record { x = x; y = y; z = z }, all_divide (grow d a) held)
 
 -- those before one of them, and this one

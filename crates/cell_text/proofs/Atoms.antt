@@ -1,11 +1,12 @@
 -- Moments and positions of lists of atoms.
 use Rattle.std.proofs.Common.{◌≡◌, ℕ, zero, suc, ◌+◌, ◌<◌, ◌≤◌, Bool, true, false, List, [], ◌∷◌, ◌++◌, length, get_or, drop, map, refl, sym, ap, ◌∙◌, arith, add-one}
 use Rattle.std.specs.Prelude.{◌&&◌, nat_le}
-use Rattle.std.specs.List.{list_all, fold}
+use Rattle.std.specs.List.{list_all}
 use Rattle.std.proofs.lemmas.List.{drop_all}
 use Rattle.std.proofs.lemmas.List.Folds.{list_all-append}
 use Rattle.std.proofs.lemmas.List.Concat.{flat_map-append}
-use Rattle.cell_text.specs.Numbers.{Fraction, scaled, common_denominator}
+use Rattle.numbers.specs.Fraction.{Fraction}
+use Rattle.plain_text.specs.NumberWords.{denominator_of, scaled, common_denominator}
 use Rattle.numbers.specs.Gcd.{lcm}
 use Rattle.std.proofs.lemmas.Bool.{le-leb, lt-leb}
 use Rattle.std.proofs.Common.{Option, Some, None}
@@ -15,6 +16,7 @@ use Rattle.cell_text.specs.declared.fault.CellFault.TheVariants.{PositionRange, 
 use Rattle.cell_text.specs.Views.{atom_view, atom_faults}
 use Rattle.cell_text.specs.Entries.{AtomLine, Contents, moments, positions, is_billion, are_positions_in_range, are_moments_in_range}
 use Rattle.cell_text.specs.Rules.{same_place}
+use Rattle.plain_text.proofs.DigitLemmas.{fold-append}
 
 abbrev pub is_billion_by : ℕ → List Fraction → Bool
 is_billion_by k ms = list_all (λ m. is_billion (scaled k m)) ms
@@ -33,18 +35,14 @@ range-append k xs ys = rw (moments-append xs ys) (list_all-append _ (moments xs)
 pub range-cons : (k : ℕ) (x : AtomLine) (ys : List AtomLine) → is_billion_by k (moments (x ∷ ys)) ≡ (is_billion_by k (moments (x ∷ [])) && is_billion_by k (moments ys))
 range-cons k x ys = range-append k (x ∷ []) ys
 
-pub fold-append : {A B : Type 0} (f : B → A → B) (b : B) (xs ys : List A) → fold f b (xs ++ ys) ≡ fold f (fold f b xs) ys
-fold-append f b [] ys = refl
-fold-append f b (x ∷ xs) ys = fold-append f (f b x) xs ys
-
 -- one more atom
-pub positions_more : (xs : List AtomLine) (a : AtomLine) → common_denominator (positions (xs ++ a ∷ [])) ≡ lcm (lcm (lcm (common_denominator (positions xs)) a.x.den) a.y.den) a.z.den
+pub positions_more : (xs : List AtomLine) (a : AtomLine) → common_denominator (positions (xs ++ a ∷ [])) ≡ lcm (lcm (lcm (common_denominator (positions xs)) (denominator_of a.x)) (denominator_of a.y)) (denominator_of a.z)
 unfolding positions
-positions_more xs a = ap common_denominator (positions-append xs (a ∷ [])) ∙ fold-append (λ (d : ℕ) (f : Fraction). lcm d f.den) 1 (positions xs) (positions (a ∷ []))
+positions_more xs a = ap common_denominator (positions-append xs (a ∷ [])) ∙ fold-append (λ (d : ℕ) (f : Fraction). lcm d (denominator_of f)) 1 (positions xs) (positions (a ∷ []))
 
-pub moments_more : (xs : List AtomLine) (a : AtomLine) → common_denominator (moments (xs ++ a ∷ [])) ≡ lcm (lcm (lcm (common_denominator (moments xs)) a.ma.den) a.mb.den) a.mc.den
+pub moments_more : (xs : List AtomLine) (a : AtomLine) → common_denominator (moments (xs ++ a ∷ [])) ≡ lcm (lcm (lcm (common_denominator (moments xs)) (denominator_of a.ma)) (denominator_of a.mb)) (denominator_of a.mc)
 unfolding moments
-moments_more xs a = ap common_denominator (moments-append xs (a ∷ [])) ∙ fold-append (λ (d : ℕ) (f : Fraction). lcm d f.den) 1 (moments xs) (moments (a ∷ []))
+moments_more xs a = ap common_denominator (moments-append xs (a ∷ [])) ∙ fold-append (λ (d : ℕ) (f : Fraction). lcm d (denominator_of f)) 1 (moments xs) (moments (a ∷ []))
 
 -- ---- atoms of the code
 
@@ -65,21 +63,21 @@ range_end k xs i total h e = rw (drop_all i xs h) at e
 
 -- ---- the tests of the rules
 
-pub positions_fit : (xs : List AtomLine) (a : AtomLine) (n : ℕ) → n ≡ common_denominator (positions xs) → lcm (lcm (lcm n a.x.den) a.y.den) a.z.den ≤ 1000000 → are_positions_in_range (xs ++ a ∷ []) ≡ true
+pub positions_fit : (xs : List AtomLine) (a : AtomLine) (n : ℕ) → n ≡ common_denominator (positions xs) → lcm (lcm (lcm n (denominator_of a.x)) (denominator_of a.y)) (denominator_of a.z) ≤ 1000000 → are_positions_in_range (xs ++ a ∷ []) ≡ true
 unfolding are_positions_in_range
 positions_fit xs a n e h = rw (positions_more xs a, ← e) (le-leb _ 1000000 h)
 
-pub positions_past : (xs : List AtomLine) (a : AtomLine) (n : ℕ) → n ≡ common_denominator (positions xs) → 1000000 < lcm (lcm (lcm n a.x.den) a.y.den) a.z.den → are_positions_in_range (xs ++ a ∷ []) ≡ false
+pub positions_past : (xs : List AtomLine) (a : AtomLine) (n : ℕ) → n ≡ common_denominator (positions xs) → 1000000 < lcm (lcm (lcm n (denominator_of a.x)) (denominator_of a.y)) (denominator_of a.z) → are_positions_in_range (xs ++ a ∷ []) ≡ false
 unfolding are_positions_in_range
 positions_past xs a n e h = rw (positions_more xs a, ← e) (lt-leb _ 1000000 h)
 
-pub moments_are : (xs : List AtomLine) (a : AtomLine) (k k' : ℕ) (b : Bool) → k ≡ common_denominator (moments xs) → k' ≡ lcm (lcm (lcm k a.ma.den) a.mb.den) a.mc.den → k' ≤ 1000000 → b ≡ is_billion_by k' (moments (xs ++ a ∷ [])) → are_moments_in_range (xs ++ a ∷ []) ≡ b
+pub moments_are : (xs : List AtomLine) (a : AtomLine) (k k' : ℕ) (b : Bool) → k ≡ common_denominator (moments xs) → k' ≡ lcm (lcm (lcm k (denominator_of a.ma)) (denominator_of a.mb)) (denominator_of a.mc) → k' ≤ 1000000 → b ≡ is_billion_by k' (moments (xs ++ a ∷ [])) → are_moments_in_range (xs ++ a ∷ []) ≡ b
 unfolding are_moments_in_range
 moments_are xs a k k' b e f h g =
     let all : common_denominator (moments (xs ++ a ∷ [])) ≡ k' = moments_more xs a ∙ rw (← e) (sym f) in
     rw (all, le-leb k' 1000000 h) (sym g)
 
-pub moments_past : (xs : List AtomLine) (a : AtomLine) (k : ℕ) → k ≡ common_denominator (moments xs) → 1000000 < lcm (lcm (lcm k a.ma.den) a.mb.den) a.mc.den → are_moments_in_range (xs ++ a ∷ []) ≡ false
+pub moments_past : (xs : List AtomLine) (a : AtomLine) (k : ℕ) → k ≡ common_denominator (moments xs) → 1000000 < lcm (lcm (lcm k (denominator_of a.ma)) (denominator_of a.mb)) (denominator_of a.mc) → are_moments_in_range (xs ++ a ∷ []) ≡ false
 unfolding are_moments_in_range
 moments_past xs a k e h =
     let past : nat_le (common_denominator (moments (xs ++ a ∷ []))) 1000000 ≡ false = rw (moments_more xs a, ← e) (lt-leb _ 1000000 h) in

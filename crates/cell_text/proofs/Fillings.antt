@@ -7,7 +7,7 @@ use Rattle.crystal_spec.specs.Moments.{axial_vectors}
 use Rattle.crystal_spec.specs.Crystals.{Site, Structure}
 use Rattle.cell_text.specs.declared.atom_line.AtomLine.{AtomLine as CodeAtom}
 use Rattle.crystal.specs.Occupants.{NoneAt}
-use Rattle.cell_text.specs.Numbers.{common_denominator}
+use Rattle.plain_text.specs.NumberWords.{common_denominator}
 use Rattle.cell_text.specs.Entries.{AtomLine, ScaledMetric, positions, moments}
 use Rattle.cell_text.specs.CellFile.{with_name, names_of, number_of, site_of, position_of, moment_of, cell_with}
 use Rattle.cell_text.specs.Filling.{with_site, filled, whole_of}

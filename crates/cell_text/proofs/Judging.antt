@@ -12,9 +12,9 @@ use Rattle.std.proofs.lemmas.List.Concat.{flat_map-append}
 use Rattle.cell_text.specs.declared.fault.CellFault.{CellFault}
 use Rattle.cell_text.specs.declared.fault.CellFault.TheVariants.{BadByte, NotMagcell, AfterEnd, BadLine}
 use Rattle.crystal.specs.Names.{is_name}
-use Rattle.cell_text.specs.Text.{words}
-use Rattle.cell_text.specs.Numbers.{or_else, when}
-use Rattle.cell_text.specs.Lines.{same_word, word_at, word_count, magcell_word, metric_word, atom_word, end_word, one_word, is_heading, is_metric_line, is_atom_line, is_end_line, is_skipped, begins_comment, has_bad_byte, number_words}
+use Rattle.plain_text.specs.Text.{words, has_bad_byte}
+use Rattle.plain_text.specs.FirstFaults.{or_else, when}
+use Rattle.cell_text.specs.Lines.{same_word, word_at, word_count, magcell_word, metric_word, atom_word, end_word, one_word, is_heading, is_metric_line, is_atom_line, is_end_line, is_skipped, begins_comment, number_words}
 use Rattle.cell_text.specs.Rules.{later_fault, heading_fault}
 use Rattle.cell_text.specs.Entries.{AtomLine, ScaledMetric, Contents, contents, atom_of, metric_of, one_if}
 use Rattle.cell_text.specs.Views.{with_line, with_atom, with_metric, with_end, atom_faults, atom_line_faults, metric_line_faults, end_line_faults}

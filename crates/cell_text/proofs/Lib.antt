@@ -1,9 +1,6 @@
 mod KnownValues
-pub mod Cutting
-pub mod Multiples
 pub mod Minors
-pub mod Signs
-pub mod Digits
+pub mod WordFaults
 pub mod Atoms
 pub mod Placing
 pub mod Judging

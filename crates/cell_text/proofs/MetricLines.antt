@@ -6,11 +6,12 @@ use Rattle.std.proofs.lemmas.Bool.{le-leb, lt-leb, leb-true, and_parts}
 use Rattle.ring.specs.Size.{AtMost}
 use Rattle.numbers.specs.Gcd.{lcm}
 use Rattle.cell_text.specs.declared.metric.MetricLine.{MetricLine}
-use Rattle.cell_text.specs.Numbers.{Fraction, common_denominator, scaled}
+use Rattle.numbers.specs.Fraction.{Fraction}
+use Rattle.plain_text.specs.NumberWords.{common_denominator, scaled}
 use Rattle.cell_text.specs.Entries.{metric_values, metric_of, is_metric_in_range, is_billion}
-use Rattle.cell_text.specs.Views.{Grown}
+use Rattle.plain_text.specs.Views.{Grown}
 use Rattle.cell_text.specs.Readers.{fractions, scaled_tensor}
-use Rattle.cell_text.proofs.Multiples.{lcm-positive, lcm-grows_left, past_one}
+use Rattle.plain_text.proofs.Multiples.{lcm-positive, lcm-grows_left, past_one}
 
 -- ---- the least scale of six numbers
 

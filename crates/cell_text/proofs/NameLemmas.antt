@@ -9,11 +9,11 @@ use Rattle.std.proofs.Math.Bool.{or-true}
 use Rattle.crystal_spec.specs.Crystals.{Structure}
 use Rattle.crystal_spec.specs.Increasing.{IsMember}
 use Rattle.crystal.specs.Numbering.{AreByFirstUse}
-use Rattle.cell_text.specs.Text.{lines}
+use Rattle.plain_text.specs.Text.{lines}
 use Rattle.cell_text.specs.Lines.{same_word}
 use Rattle.cell_text.specs.Entries.{AtomLine, Contents, contents}
 use Rattle.cell_text.specs.CellFile.{with_name, names_of, number_of, site_of, cell_with, Spells}
-use Rattle.cell_text.proofs.Atoms.{fold-append}
+use Rattle.plain_text.proofs.DigitLemmas.{fold-append}
 
 same_self : (w : List ℕ) → same_word w w ≡ true
 same_self [] = refl

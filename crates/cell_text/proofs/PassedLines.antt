@@ -6,9 +6,9 @@ use Rattle.std.proofs.Common.{◌≡◌, ℕ, zero, suc, ◌+◌, Bool, true, fa
 use Rattle.std.specs.Prelude.{◌&&◌, ◌||◌, not, ◌==◌, nat_le, if◌then◌else◌}
 use Rattle.cell_text.specs.declared.fault.CellFault.{CellFault}
 use Rattle.cell_text.specs.declared.fault.CellFault.TheVariants.{BadByte, BadLine, MetricTwice, MetricMissing, MetricRange, NotPositive, PositionRange, MomentRange, TooManyAtoms, NoAtom, NoEnd, AfterEnd}
-use Rattle.cell_text.specs.Text.{lines}
-use Rattle.cell_text.specs.Numbers.{when, first_of, number_fault}
-use Rattle.cell_text.specs.Lines.{is_metric_line, is_atom_line, is_end_line, is_skipped, has_bad_byte, number_words}
+use Rattle.plain_text.specs.Text.{lines, has_bad_byte}
+use Rattle.plain_text.specs.FirstFaults.{when, first_of}
+use Rattle.cell_text.specs.Lines.{word_fault, is_metric_line, is_atom_line, is_end_line, is_skipped, number_words}
 use Rattle.cell_text.specs.Entries.{Contents, atom_of, metric_of, contents, is_metric_in_range, is_positive, are_positions_in_range, are_moments_in_range}
 use Rattle.cell_text.specs.Rules.{same_place, later_fault, judged, fault_after, fault_at_end, numbered, first_fault, cell_fault}
 use Rattle.cell_text.specs.Views.{with_line}
@@ -22,7 +22,7 @@ later_faults before line =
     ∷ when (not (is_metric_line line || is_atom_line line || is_end_line line)) BadLine
     ∷ when (is_metric_line line && not (length before.metrics == 0)) MetricTwice
     ∷ when (is_atom_line line && nat_le 512 (length before.atoms)) TooManyAtoms
-    ∷ first_of (map number_fault (number_words line))
+    ∷ first_of (map word_fault (number_words line))
     ∷ when (is_metric_line line && not (is_metric_in_range line)) MetricRange
     ∷ when (is_metric_line line && not (is_positive (metric_of line).entries)) NotPositive
     ∷ when (is_atom_line line && not (are_positions_in_range (before.atoms ++ atom_of line ∷ []))) PositionRange
@@ -33,7 +33,7 @@ later_faults before line =
     ∷ []
 
 -- where there is no first fault, there is none
-pub all_none : (fs : List (Option CellFault)) (i : ℕ) → first_of fs ≡ None → get_or fs i None ≡ None
+pub all_none : {X : Type 0} (fs : List (Option X)) (i : ℕ) → first_of fs ≡ None → get_or fs i None ≡ None
 all_none [] i e = refl
 all_none (None ∷ fs) zero e = refl
 all_none (None ∷ fs) (suc i) e = all_none fs i e

@@ -10,11 +10,13 @@ use Rattle.std.specs.List.{list_all}
 use Rattle.std.proofs.lemmas.Bool.{and_parts}
 use Rattle.std.proofs.lemmas.List.{map-append}
 use Rattle.std.proofs.lemmas.List.Folds.{list_all-append}
-use Rattle.cell_text.specs.Numbers.{common_denominator, when, or_else}
+use Rattle.plain_text.specs.NumberWords.{common_denominator}
+use Rattle.plain_text.specs.FirstFaults.{when, or_else}
 use Rattle.numbers.specs.Gcd.{lcm}
 use Rattle.cell_text.specs.Entries.{AtomLine, moments, positions, is_same_place}
 use Rattle.cell_text.specs.Rules.{same_place, same_place_from}
-use Rattle.cell_text.specs.Views.{atom_view, atom_faults, State, Grown, AreApart}
+use Rattle.cell_text.specs.Views.{atom_view, atom_faults, State, AreApart}
+use Rattle.plain_text.specs.Views.{Grown}
 use Rattle.cell_text.specs.Readers.{state_of, IsReader}
 use Rattle.cell_text.proofs.Atoms.{is_billion_by, positions_more, moments_more, positions_fit, positions_past, moments_are, moments_past, faults-position, faults-moment, faults-place}
 

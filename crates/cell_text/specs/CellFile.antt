@@ -12,8 +12,9 @@ use Rattle.numbers.specs.Residue.{residue}
 use Rattle.crystal_spec.specs.Matrices.{Triple}
 use Rattle.crystal_spec.specs.Moments.{axial_vectors}
 use Rattle.crystal_spec.specs.Crystals.{Site, Structure}
-use Rattle.cell_text.specs.Text.{lines}
-use Rattle.cell_text.specs.Numbers.{Fraction, common_denominator, scaled}
+use Rattle.plain_text.specs.Text.{lines}
+use Rattle.numbers.specs.Fraction.{Fraction}
+use Rattle.plain_text.specs.NumberWords.{common_denominator, scaled}
 use Rattle.cell_text.specs.Lines.{same_word}
 use Rattle.cell_text.specs.Entries.{AtomLine, ScaledMetric, Contents, symmetric, contents, positions, moments}
 use Rattle.cell_text.specs.Rules.{cell_fault}

@@ -7,7 +7,8 @@
 use Rattle.std.specs.Prelude.{ℕ, ℤ, pos, ◌*ℤ◌, ◌-ℤ◌, Bool, ◌&&◌, nat_le, int_lt, List, [], ◌∷◌, if◌then◌else◌, unsigned_abs}
 use Rattle.std.specs.List.{list_all, list_any, flat_map}
 use Rattle.crystal_spec.specs.Matrices.{Matrix, determinant}
-use Rattle.cell_text.specs.Numbers.{Fraction, common_denominator, scaled, is_same_modulo_1}
+use Rattle.numbers.specs.Fraction.{Fraction}
+use Rattle.plain_text.specs.NumberWords.{common_denominator, scaled, is_same_modulo_1}
 use Rattle.cell_text.specs.Lines.{word_at, value_at, is_metric_line, is_atom_line, is_end_line}
 
 -- An atom: its name, its position in units of the axes, and its moment along the axes.

@@ -1,5 +1,3 @@
-pub mod Text
-pub mod Numbers
 pub mod Lines
 pub mod Entries
 pub mod Rules

@@ -4,13 +4,20 @@
 --   is_heading, is_metric_line, is_atom_line, is_end_line    the four forms of a line
 --   is_skipped l     the line has no words, or is a comment
 --   number_words l   the words that are to be numbers
+--   word_fault w     the rule that a word breaks that is to be a number
 -- The format is our own.
-use Rattle.std.specs.Prelude.{ℕ, Bool, false, not, ◌==◌, ◌||◌, ◌&&◌, nat_le, List, [], ◌∷◌, length, get_or, drop, if◌then◌else◌, nat_eq, codes}
+use Rattle.std.specs.Prelude.{ℕ, Bool, false, ◌==◌, ◌||◌, ◌&&◌, List, [], ◌∷◌, length, get_or, drop, if◌then◌else◌, nat_eq, codes}
 use Rattle.std.specs.Cmp.Lexicographic.{pointwise}
-use Rattle.std.specs.List.{list_any}
+use Rattle.std.specs.declared.option.Option.{Option}
+use Rattle.std.specs.declared.option.Option.TheVariants.{Some, None}
 use Rattle.crystal.specs.Names.{is_name}
-use Rattle.cell_text.specs.Text.{words}
-use Rattle.cell_text.specs.Numbers.{Fraction, number_value}
+use Rattle.plain_text.specs.Text.{words}
+use Rattle.numbers.specs.Fraction.{Fraction}
+use Rattle.plain_text.specs.declared.fault.NumberFault.{NumberFault}
+use Rattle.plain_text.specs.declared.fault.NumberFault.TheVariants as numbers
+use Rattle.plain_text.specs.NumberWords.{number_fault, number_value}
+use Rattle.cell_text.specs.declared.fault.CellFault.{CellFault}
+use Rattle.cell_text.specs.declared.fault.CellFault.TheVariants.{BadNumber, NumberRange, ZeroDenominator}
 
 -- byte by byte
 abbrev pub same_word : List ℕ → List ℕ → Bool
@@ -65,13 +72,20 @@ begins_comment (b ∷ word) = b == 35
 unfoldable pub is_skipped : List ℕ → Bool
 is_skipped line = word_count line == 0 || begins_comment (word_at line 0)
 
--- other than tab and the bytes from space to `~`
-abbrev pub is_bad_byte : ℕ → Bool
-is_bad_byte b = not (b == 9 || (nat_le 32 b && nat_le b 126))
-
-unfoldable pub has_bad_byte : List ℕ → Bool
-has_bad_byte line = list_any is_bad_byte line
-
 -- the words of a metric line or an atom line that are to be numbers
 unfoldable pub number_words : List ℕ → List (List ℕ)
 number_words line = if is_metric_line line then drop 1 (words line) else if is_atom_line line then drop 2 (words line) else []
+
+-- the rule that is broken
+abbrev pub rule_of : NumberFault → CellFault
+rule_of numbers.BadNumber = BadNumber
+rule_of numbers.NumberRange = NumberRange
+rule_of numbers.ZeroDenominator = ZeroDenominator
+
+abbrev pub rule_of_any : Option NumberFault → Option CellFault
+rule_of_any None = None
+rule_of_any (Some fault) = Some (rule_of fault)
+
+-- the rule that a word breaks that is to be a number
+unfoldable pub word_fault : List ℕ → Option CellFault
+word_fault word = rule_of_any (number_fault word)

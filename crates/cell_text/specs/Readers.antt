@@ -3,9 +3,11 @@ use Rattle.std.specs.Prelude.{◌≡◌, ℕ, ◌<◌, ◌≤◌, List, [], ◌�
 use Rattle.std.specs.declared.option.Option.{Option}
 use Rattle.std.specs.declared.option.Option.TheVariants.{Some, None}
 use Rattle.crystal.specs.Views.{metric_of as tensor}
-use Rattle.cell_text.specs.Numbers.{Fraction, common_denominator, scaled}
+use Rattle.numbers.specs.Fraction.{Fraction, fraction}
+use Rattle.plain_text.specs.NumberWords.{common_denominator, scaled}
 use Rattle.cell_text.specs.Entries.{ScaledMetric, positions, moments, symmetric, is_positive}
-use Rattle.cell_text.specs.Views.{fraction_of, atom_view, State, AreApart}
+use Rattle.plain_text.specs.Views.{fraction_of}
+use Rattle.cell_text.specs.Views.{atom_view, State, AreApart}
 use Rattle.cell_text.specs.declared.scaled_metric.ScaledMetric.{ScaledMetric as CodeMetric}
 use Rattle.cell_text.specs.declared.metric.MetricLine.{MetricLine}
 use Rattle.cell_text.specs.declared.reader.Reader.TheInside.{Inside}
@@ -18,7 +20,7 @@ abbrev pub fractions : MetricLine → List Fraction
 fractions m = fraction_of m.aa ∷ fraction_of m.bb ∷ fraction_of m.cc ∷ fraction_of m.bc ∷ fraction_of m.ac ∷ fraction_of m.ab ∷ []
 
 abbrev pub nothing : Fraction
-nothing = record { num = pos 0; den = 1 }
+nothing = fraction (pos 0) (pos 1)
 
 -- the metric tensor of six numbers in units of 1/d
 abbrev pub scaled_tensor : ℕ → List Fraction → ScaledMetric

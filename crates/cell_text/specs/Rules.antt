@@ -11,9 +11,9 @@ use Rattle.cell_text.specs.declared.fault.CellFault.{CellFault}
 use Rattle.cell_text.specs.declared.fault.CellError.{CellError}
 use Rattle.cell_text.specs.declared.fault.CellError.TheVariants as answers
 use Rattle.cell_text.specs.declared.fault.CellFault.TheVariants.{NotMagcell, BadByte, BadLine, MetricTwice, MetricMissing, MetricRange, NotPositive, PositionRange, MomentRange, TooManyAtoms, NoAtom, SamePlace, NoEnd, AfterEnd}
-use Rattle.cell_text.specs.Text.{lines}
-use Rattle.cell_text.specs.Numbers.{when, or_else, first_of, number_fault}
-use Rattle.cell_text.specs.Lines.{is_heading, is_metric_line, is_atom_line, is_end_line, is_skipped, has_bad_byte, number_words}
+use Rattle.plain_text.specs.Text.{lines, has_bad_byte}
+use Rattle.plain_text.specs.FirstFaults.{when, or_else, first_of}
+use Rattle.cell_text.specs.Lines.{word_fault, is_heading, is_metric_line, is_atom_line, is_end_line, is_skipped, number_words}
 use Rattle.cell_text.specs.Entries.{AtomLine, Contents, atom_of, metric_of, contents, is_metric_in_range, is_positive, are_positions_in_range, are_moments_in_range, is_same_place}
 
 -- Atom number j stands at the position of one of these, which are numbered from i: the first such.
@@ -40,7 +40,7 @@ later_fault before line = first_of
     ∷ when (not (is_metric_line line || is_atom_line line || is_end_line line)) BadLine
     ∷ when (is_metric_line line && not (length before.metrics == 0)) MetricTwice
     ∷ when (is_atom_line line && nat_le 512 (length before.atoms)) TooManyAtoms
-    ∷ first_of (map number_fault (number_words line))
+    ∷ first_of (map word_fault (number_words line))
     ∷ when (is_metric_line line && not (is_metric_in_range line)) MetricRange
     ∷ when (is_metric_line line && not (is_positive (metric_of line).entries)) NotPositive
     ∷ when (is_atom_line line && not (are_positions_in_range (before.atoms ++ atom_of line ∷ []))) PositionRange

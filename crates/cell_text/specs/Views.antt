@@ -1,5 +1,5 @@
 -- What the values of the code stand for, and the rules that are left for each kind of line.
-use Rattle.std.specs.Prelude.{◌≡◌, ℕ, ◌<◌, ◌≤◌}
+use Rattle.std.specs.Prelude.{◌≡◌, ℕ}
 use Rattle.std.specs.Prelude.{List, Option, Some, None, map, [], ◌∷◌, ◌++◌, ◌||◌, ◌==◌, nat_le, drop, length, true, not, ⊤}
 use Rattle.std.specs.declared.result.Result.{Result}
 use Rattle.std.specs.declared.result.Result.TheVariants.{Ok, Err}
@@ -7,33 +7,14 @@ use Rattle.cell_text.specs.declared.fault.CellFault.{CellFault}
 use Rattle.cell_text.specs.declared.fault.LineError.{LineError}
 use Rattle.cell_text.specs.declared.fault.LineError.TheVariants as errors
 use Rattle.cell_text.specs.declared.atom_line.AtomLine.{AtomLine as CodeAtom}
-use Rattle.cell_text.specs.Numbers.{Fraction, signed, first_of, when, number_fault}
-use Rattle.numbers.specs.Gcd.{lcm}
+use Rattle.plain_text.specs.Views.{fraction_of}
+use Rattle.plain_text.specs.FirstFaults.{first_of, when}
+use Rattle.cell_text.specs.Lines.{word_fault, is_atom_line, is_metric_line, is_end_line}
 use Rattle.cell_text.specs.Entries.{is_same_place, AtomLine, Contents, ScaledMetric, atom_of, metric_of, one_if, are_positions_in_range, are_moments_in_range, is_metric_in_range, is_positive}
-use Rattle.cell_text.specs.Lines.{is_atom_line, is_metric_line, is_end_line}
 use Rattle.cell_text.specs.Rules.{same_place}
 use Rattle.std.specs.List.{list_all}
-use Rattle.cell_text.specs.Text.{words}
+use Rattle.plain_text.specs.Text.{words}
 use Rattle.cell_text.specs.declared.fault.CellFault.TheVariants.{PositionRange, MomentRange, TooManyAtoms, MetricTwice, MetricRange, NotPositive, MetricMissing, NoAtom}
-use Rattle.cell_text.specs.declared.fraction.Fraction.{Fraction as CodeFraction}
-
-abbrev pub fraction_of : CodeFraction → Fraction
-fraction_of f = record { num = signed f.negative f.num; den = f.den }
-
--- m is the least common multiple of a and b
-pub record IsMultiple (a b m : ℕ) : Type 0 where
-  pub is : m ≡ lcm a b
-  pub positive : 0 < m
-  pub left : a ≤ m
-  pub right : b ≤ m
-
--- m is the least common multiple of d and three denominators
-pub record Grown (d x y z m : ℕ) : Type 0 where
-  pub is : m ≡ lcm (lcm (lcm d x) y) z
-  pub positive : 0 < m
-  pub x_within : x ≤ m
-  pub y_within : y ≤ m
-  pub z_within : z ≤ m
 
 abbrev pub atom_view : CodeAtom → AtomLine
 atom_view a = record { name = a.name.items; x = fraction_of a.x; y = fraction_of a.y; z = fraction_of a.z; ma = fraction_of a.ma; mb = fraction_of a.mb; mc = fraction_of a.mc }
@@ -78,14 +59,14 @@ atom_faults held a = first_of
 unfoldable pub atom_line_faults : Contents → List ℕ → Option CellFault
 atom_line_faults held line = first_of
     (when (nat_le 512 (length held.atoms)) TooManyAtoms
-    ∷ first_of (map number_fault (drop 2 (words line)))
+    ∷ first_of (map word_fault (drop 2 (words line)))
     ∷ atom_faults held (atom_of line)
     ∷ [])
 
 unfoldable pub metric_line_faults : Contents → List ℕ → Option CellFault
 metric_line_faults held line = first_of
     (when (not (length held.metrics == 0)) MetricTwice
-    ∷ first_of (map number_fault (drop 1 (words line)))
+    ∷ first_of (map word_fault (drop 1 (words line)))
     ∷ when (not (is_metric_in_range line)) MetricRange
     ∷ when (not (is_positive (metric_of line).entries)) NotPositive
     ∷ [])

@@ -1,22 +1,24 @@
 ghost use Rattle.std.specs.Prelude.{true, ◌≡◌, ◌≤◌, map, length, drop, IfOk, MatchResult, Some, None, [], ◌∷◌};
 ghost use Rattle.std.specs.List.{list_all};
-ghost use Rattle.cell_text.specs.Text.{words};
-ghost use Rattle.cell_text.specs.Numbers.{first_of, number_fault, scaled};
+ghost use Rattle.plain_text.specs.Text.{words};
+ghost use Rattle.plain_text.specs.FirstFaults.{first_of};
+ghost use Rattle.cell_text.specs.Lines.{word_fault, is_atom_line};
+ghost use Rattle.plain_text.specs.NumberWords.{scaled};
 ghost use Rattle.cell_text.specs.Entries.{atom_of, moments, is_billion, is_same_place};
 ghost use Rattle.cell_text.specs.Rules.{same_place};
-ghost use Rattle.cell_text.specs.Lines.{is_atom_line};
 ghost use Rattle.cell_text.specs.Views.{atom_view};
 
 use crate::atom_line::AtomLine;
 use crate::fault::CellFault;
+use crate::limits::is_billion;
 use crate::line::Line;
-use crate::number::{is_billion, is_same_modulo_1};
+use plain_text::is_same_modulo_1;
 use std::alloc::{AllocError, Global};
 
 /// What the line says.
 pub(crate) fn atom_of(alloc: Global, line: &Line) -> Result<AtomLine, AllocError>
     requires form { is_atom_line line.now.text.now ≡ true }
-    requires numbers { first_of (map number_fault (drop 2 (words line.now.text.now))) ≡ None }
+    requires numbers { first_of (map word_fault (drop 2 (words line.now.text.now))) ≡ None }
     ensures { IfOk result (λ a. atom_view a ≡ atom_of line.now.text.now) }
 {
     let name = Vec::from_slice(alloc, line.word(1))?;

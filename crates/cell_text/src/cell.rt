@@ -3,7 +3,7 @@ ghost use Rattle.crystal_spec.specs.Moments.{axial_vectors};
 ghost use Rattle.crystal.specs.Names.{is_name};
 ghost use Rattle.crystal.specs.Views.{metric_of as tensor};
 ghost use Rattle.crystal.specs.Occupants.{NoneAt};
-ghost use Rattle.cell_text.specs.Numbers.{common_denominator};
+ghost use Rattle.plain_text.specs.NumberWords.{common_denominator};
 ghost use Rattle.cell_text.specs.Entries.{positions, moments, is_positive};
 ghost use Rattle.cell_text.specs.CellFile.{with_name, number_of, position_of, moment_of, cell_with};
 ghost use Rattle.cell_text.specs.Filling.{with_site, whole_of};

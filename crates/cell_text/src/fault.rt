@@ -1,3 +1,7 @@
+ghost use Rattle.std.specs.Prelude.{◌≡◌};
+ghost use Rattle.cell_text.specs.Lines.{rule_of};
+
+use plain_text::NumberFault;
 use thiserror::Error;
 
 /// The rule of the cell file that a line breaks.
@@ -54,6 +58,18 @@ pub enum CellFault {
     /// The line stands behind the end line.
     #[error("a line behind the end")]
     AfterEnd,
+}
+
+impl From<NumberFault> for CellFault {
+    ghost from_gives = { λ fault rule. rule ≡ rule_of fault };
+
+    fn from(fault: NumberFault) -> CellFault {
+        match fault {
+            NumberFault::BadNumber => CellFault::BadNumber,
+            NumberFault::NumberRange => CellFault::NumberRange,
+            NumberFault::ZeroDenominator => CellFault::ZeroDenominator,
+        }
+    }
 }
 
 /// Why no cell was read.

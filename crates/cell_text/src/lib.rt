@@ -4,27 +4,25 @@
 //! Numbers are fractions; positions are in units of the axes and taken modulo 1, moments along the axes. The least common
 //! denominators of the metric tensor, of all positions and of all moments are the units of the cell.
 //!
-//! Definitions: `specs/Text` (lines and words), `specs/Numbers` (number words), `specs/Lines` (the forms of a line),
-//! `specs/Entries` (what a line says), `specs/Rules` (the first line that breaks a rule) and `specs/CellFile` (the cell
-//! that a text spells). The format is our own.
+//! Definitions: `specs/Lines` (the forms of a line), `specs/Entries` (what a line says), `specs/Rules` (the first line that
+//! breaks a rule) and `specs/CellFile` (the cell that a text spells), over the lines, words and number words of plain_text.
+//! The format is our own.
 #![tactic(auto)]
 
 mod atom;
 mod atom_line;
 mod cell;
 mod fault;
-mod fraction;
+mod limits;
 mod line;
 mod metric;
 mod names;
-mod number;
 mod read;
 mod reader;
 mod scaled_metric;
 mod site;
 #[cfg(test)]
 mod tests;
-mod text;
 
 pub use fault::{CellError, CellFault};
 pub use read::read_cell;

@@ -1,16 +1,13 @@
 ghost use Rattle.std.specs.Prelude.{◌≡◌, ◌≤◌, ◌+◌, ℕ, map, length, drop, IfOk, MatchResult, Some, None, true, ◌||◌, ◌==◌, ◌<◌};
-ghost use Rattle.std.specs.List.{list_any};
 ghost use Rattle.crystal.specs.Names.{is_name};
-ghost use Rattle.cell_text.specs.Text.{words};
-ghost use Rattle.cell_text.specs.Numbers.{first_of, number_fault, is_digit};
-ghost use Rattle.cell_text.specs.Views.{fraction_of};
-ghost use Rattle.cell_text.specs.Lines.{same_word, word_count, word_at, value_at, is_heading, is_metric_line, is_atom_line, is_end_line, is_skipped, begins_comment, is_bad_byte, has_bad_byte, number_words};
+ghost use Rattle.plain_text.specs.Text.{words};
+ghost use Rattle.plain_text.specs.FirstFaults.{first_of};
+ghost use Rattle.cell_text.specs.Lines.{word_fault, same_word, word_count, word_at, value_at, is_heading, is_metric_line, is_atom_line, is_end_line, is_skipped, begins_comment, number_words};
+ghost use Rattle.plain_text.specs.Views.{fraction_of};
 
 use crate::fault::CellFault;
-use crate::fraction::Fraction;
-use crate::number::{number, zero};
-use crate::text;
 use crystal::Name;
+use plain_text::{NumberWord, read_number, words, zero};
 use std::alloc::{AllocError, Global};
 
 /// A line and its words.
@@ -34,25 +31,6 @@ fn is_name(word: &[u8]) -> bool
     Name::new(word).is_some()
 }
 
-fn is_bad_byte(b: u8) -> bool
-    ensures { result ≡ is_bad_byte b }
-{
-    !(b == b'\t' || (b' ' <= b && b <= b'~'))
-}
-
-/// Whether a byte of the line is not plain ASCII.
-#[tactic(auto, unfolding(crate::specs::Lines::has_bad_byte))]
-pub(crate) fn has_bad_byte(line: &[u8]) -> bool
-    ensures { result ≡ has_bad_byte line.now }
-{
-    for b in line {
-        if is_bad_byte(*b) {
-            return true;
-        }
-    }
-    false
-}
-
 fn begins_comment(word: &[u8]) -> bool
     ensures { result ≡ begins_comment word.now }
 {
@@ -67,7 +45,7 @@ impl<'a> Line<'a> {
     pub(crate) fn new(alloc: Global, text: &'a [u8]) -> Result<Line<'a>, AllocError>
         ensures { IfOk result (λ l. l.text.now ≡ text.now) }
     {
-        let parts = text::words(alloc, text)?;
+        let parts = words(alloc, text)?;
         Ok(Line { text, parts })
     }
 
@@ -129,29 +107,28 @@ impl<'a> Line<'a> {
     }
 
     /// The first fault of the words from this number on, as numbers.
+    #[tactic(auto, unfolding(crate::specs::Lines::word_fault))]
     pub(crate) fn check_numbers(&self, from: usize) -> Result<(), CellFault>
-        ensures { MatchResult result (λ _. first_of (map number_fault (drop from (words self.now.text.now))) ≡ None) (λ e. first_of (map number_fault (drop from (words self.now.text.now))) ≡ Some e) }
+        ensures { MatchResult result (λ _. first_of (map word_fault (drop from (words self.now.text.now))) ≡ None) (λ e. first_of (map word_fault (drop from (words self.now.text.now))) ≡ Some e) }
     {
         let mut i = from;
         while i < self.count() {
-            match number(self.word(i)) {
-                Ok(_) => {}
-                Err(fault) => return Err(fault),
-            }
+            read_number(self.word(i))?;
             i += 1;
         }
         Ok(())
     }
 
     /// The number with this word, 0 where there is no such word.
-    pub(crate) fn value(&self, i: usize) -> Fraction
-        requires { i < word_count self.now.text.now → number_fault (word_at self.now.text.now i) ≡ None }
+    #[tactic(auto, unfolding(crate::specs::Lines::word_fault))]
+    pub(crate) fn value(&self, i: usize) -> NumberWord
+        requires { i < word_count self.now.text.now → word_fault (word_at self.now.text.now i) ≡ None }
         ensures { fraction_of result ≡ value_at self.now.text.now i }
     {
         if i >= self.count() {
             return zero();
         }
-        match number(self.word(i)) {
+        match read_number(self.word(i)) {
             Ok(value) => value,
             Err(_) => zero(),
         }

@@ -2,32 +2,34 @@ ghost use Rattle.std.specs.Prelude.{◌≡◌, ◌↔◌, map, drop, ◌≤◌, 
 ghost use Rattle.std.specs.List.{list_all};
 ghost use Rattle.ring.specs.Size.{AtMost};
 ghost use Rattle.crystal.specs.Views.{metric_of as tensor};
-ghost use Rattle.cell_text.specs.Text.{words};
-ghost use Rattle.cell_text.specs.Numbers.{first_of, number_fault, scaled, common_denominator};
+ghost use Rattle.plain_text.specs.Text.{words};
+ghost use Rattle.plain_text.specs.FirstFaults.{first_of};
+ghost use Rattle.cell_text.specs.Lines.{word_fault};
+ghost use Rattle.plain_text.specs.NumberWords.{scaled, common_denominator};
 ghost use Rattle.cell_text.specs.Entries.{is_metric_in_range, metric_values, metric_of, is_positive, is_billion};
-ghost use Rattle.cell_text.specs.Views.{fraction_of};
+ghost use Rattle.plain_text.specs.Views.{fraction_of};
 ghost use Rattle.cell_text.specs.Readers.{metric_view, fractions, scaled_tensor};
 
-use crate::fraction::Fraction;
+use crate::limits::is_billion;
 use crate::line::Line;
-use crate::number::{grown, is_billion, times};
 use crate::scaled_metric::ScaledMetric;
 use crystal::Metric;
 use exact_num::Int;
+use plain_text::{NumberWord, grown, times};
 
 /// The six numbers of a metric line.
 #[derive(Clone, Copy)]
 pub(crate) struct MetricLine {
-    pub aa: Fraction,
-    pub bb: Fraction,
-    pub cc: Fraction,
-    pub bc: Fraction,
-    pub ac: Fraction,
-    pub ab: Fraction,
+    pub aa: NumberWord,
+    pub bb: NumberWord,
+    pub cc: NumberWord,
+    pub bc: NumberWord,
+    pub ac: NumberWord,
+    pub ab: NumberWord,
 }
 
 /// Whether d times each of the three is at most 10^9 in size.
-fn are_billions(x: &Fraction, y: &Fraction, z: &Fraction, d: u128) -> bool
+fn are_billions(x: &NumberWord, y: &NumberWord, z: &NumberWord, d: u128) -> bool
     requires { d ≤ 1000000000 }
     ensures { result ≡ list_all (λ f. is_billion (scaled d f)) (fraction_of x.now ∷ fraction_of y.now ∷ fraction_of z.now ∷ []) }
 {
@@ -41,7 +43,7 @@ fn are_billions(x: &Fraction, y: &Fraction, z: &Fraction, d: u128) -> bool
 }
 
 /// d times the fraction.
-fn whole(f: &Fraction, d: u128) -> Int
+fn whole(f: &NumberWord, d: u128) -> Int
     requires within { d ≤ 1000000000 }
     requires size { is_billion (scaled d (fraction_of f.now)) ≡ true }
     ensures value { result ≡ scaled d (fraction_of f.now) }
@@ -53,7 +55,7 @@ fn whole(f: &Fraction, d: u128) -> Int
 impl MetricLine {
     /// The six numbers of the line.
     fn new(line: &Line) -> MetricLine
-        requires { first_of (map number_fault (drop 1 (words line.now.text.now))) ≡ None }
+        requires { first_of (map word_fault (drop 1 (words line.now.text.now))) ≡ None }
         ensures { fractions result ≡ metric_values line.now.text.now }
     {
         MetricLine {
@@ -113,7 +115,7 @@ impl MetricLine {
 
 /// The metric tensor that the line spells, where it is in range.
 pub(crate) fn metric_of(line: &Line) -> Option<ScaledMetric>
-    requires { first_of (map number_fault (drop 1 (words line.now.text.now))) ≡ None }
+    requires { first_of (map word_fault (drop 1 (words line.now.text.now))) ≡ None }
     ensures { MatchOption result (is_metric_in_range line.now.text.now ≡ false) (λ m. (is_metric_in_range line.now.text.now ≡ true) × (metric_view m ≡ metric_of line.now.text.now)) }
 {
     let six = MetricLine::new(line);

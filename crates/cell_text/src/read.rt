@@ -1,15 +1,15 @@
 ghost use Rattle.std.specs.Prelude.{◌≡◌, ◌<◌, ◌^◌, ◌+◌, length, MatchResult, IfOk, IfErr, None, true};
 ghost use Rattle.crystal.specs.Numbering.{AreByFirstUse};
-ghost use Rattle.cell_text.specs.Text.{lines};
+ghost use Rattle.plain_text.specs.Text.{lines};
 ghost use Rattle.cell_text.specs.Entries.{contents};
 ghost use Rattle.cell_text.specs.Rules.{cell_fault, Tells};
 ghost use Rattle.cell_text.specs.CellFile.{Spells};
 
 use crate::fault::{CellError, CellFault, LineError};
 use crate::reader::Reader;
-use crate::text::first_line;
 use crystal::Cell;
 use io_edge::Bytes;
+use plain_text::first_line;
 use std::alloc::Global;
 
 /// The lines of the text, unless one breaks a rule.

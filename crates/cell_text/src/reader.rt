@@ -1,6 +1,6 @@
 ghost use Rattle.std.specs.Prelude.{true, ◌≡◌, ◌+◌, ◌^◌, ◌<◌, ◌≤◌, ◌++◌, [], ◌∷◌, length, map, OnOk, IfOk, false};
 ghost use Rattle.std.specs.List.{list_all};
-ghost use Rattle.cell_text.specs.Numbers.{scaled};
+ghost use Rattle.plain_text.specs.NumberWords.{scaled};
 ghost use Rattle.cell_text.specs.Entries.{moments, is_billion, atom_of, metric_of};
 ghost use Rattle.cell_text.specs.Rules.{same_place, heading_fault, later_fault, judged};
 ghost use Rattle.cell_text.specs.CellFile.{cell_with};
@@ -11,11 +11,11 @@ use crate::atom::{are_moments_in_range, atom_of, is_moment_in_range, same_place}
 use crate::atom_line::AtomLine;
 use crate::cell::cell_of;
 use crate::fault::{CellFault, LineError};
-use crate::line::{Line, has_bad_byte};
+use crate::line::Line;
 use crate::metric::metric_of;
-use crate::number::grown;
 use crate::scaled_metric::ScaledMetric;
 use crystal::Cell;
+use plain_text::{grown, has_bad_byte};
 use std::alloc::{AllocError, Global};
 use std::marker::Model;
 

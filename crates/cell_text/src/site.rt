@@ -3,18 +3,18 @@ ghost use Rattle.ring.specs.Size.{AtMost};
 ghost use Rattle.crystal_spec.specs.Operations.{IsWithinCell};
 ghost use Rattle.crystal.specs.Views.{triple_of};
 ghost use Rattle.crystal.specs.Bounds.{CoordinatesAtMost};
-ghost use Rattle.cell_text.specs.Numbers.{scaled};
+ghost use Rattle.plain_text.specs.NumberWords.{scaled};
 ghost use Rattle.cell_text.specs.CellFile.{part_of, position_of, moment_of};
-ghost use Rattle.cell_text.specs.Views.{fraction_of, atom_view};
+ghost use Rattle.plain_text.specs.Views.{fraction_of};
+ghost use Rattle.cell_text.specs.Views.{atom_view};
 
 use crate::atom_line::AtomLine;
-use crate::fraction::Fraction;
-use crate::number::times;
 use exact_num::{Int, Residue};
 use matrix3::Vec3;
+use plain_text::{NumberWord, times};
 
 /// The coordinate in units of 1/n, from 0 to n - 1.
-fn part_of(f: &Fraction, n: u32) -> u32
+fn part_of(f: &NumberWord, n: u32) -> u32
     requires at_least { 1 ≤ n }
     requires at_most { n ≤ 10 ^ 6 }
     ensures value { pos result ≡ part_of n (fraction_of f.now) }
@@ -39,7 +39,7 @@ pub(crate) fn position_of(atom: &AtomLine, n: u32) -> [u32; 3]
 }
 
 /// k times the component.
-fn component(f: &Fraction, k: u32) -> Int
+fn component(f: &NumberWord, k: u32) -> Int
     requires { k ≤ 10 ^ 6 }
     ensures value { result ≡ scaled k (fraction_of f.now) }
     ensures size { AtMost (10 ^ 27) result }

@@ -1,6 +1,5 @@
 mod Complete
 mod TellingLemmas
-pub mod CountLemmas
 pub mod OptionLemmas
 pub mod OptionOrder
 pub mod SpelledSizes

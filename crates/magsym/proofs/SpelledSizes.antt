@@ -9,8 +9,9 @@ use Rattle.ring.specs.Size.{AtMost}
 use Rattle.crystal_spec.specs.Crystals.{Site, Structure}
 use Rattle.crystal_spec.specs.Increasing.{IsMember}
 use Rattle.crystal.specs.Bounds.{EntriesAtMost, CoordinatesAtMost}
-use Rattle.cell_text.specs.Text.{lines}
-use Rattle.cell_text.specs.Numbers.{Fraction, common_denominator, scaled}
+use Rattle.plain_text.specs.Text.{lines}
+use Rattle.numbers.specs.Fraction.{Fraction}
+use Rattle.plain_text.specs.NumberWords.{common_denominator, scaled}
 use Rattle.cell_text.specs.Lines.{is_metric_line, is_atom_line}
 use Rattle.cell_text.specs.Entries.{AtomLine, ScaledMetric, Contents, atom_of, metric_of, metric_values, scale_of_line, scaled_at, contents, moments, is_billion, is_metric_in_range, are_moments_in_range, one_if}
 use Rattle.cell_text.specs.Rules.{later_fault, cell_fault}

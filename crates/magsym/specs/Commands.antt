@@ -8,12 +8,12 @@
 --   command words        the command, or the first fault from the left
 -- The word behind `--skip` or `--take` is its value, whatever it is. An option that was given before is told as such also
 -- where it has no value.
-use Rattle.std.specs.Prelude.{ℕ, Bool, true, false, List, [], ◌∷◌, length, nat_eq, nat_le, ◌&&◌, if◌then◌else◌, codes}
+use Rattle.std.specs.Prelude.{ℕ, Bool, true, false, List, [], ◌∷◌, nat_eq, if◌then◌else◌, codes}
 use Rattle.std.specs.Cmp.Lexicographic.{pointwise}
 use Rattle.std.specs.declared.option.Option.TheVariants.{Some, None}
 use Rattle.std.specs.declared.result.Result.{Result}
 use Rattle.std.specs.declared.result.Result.TheVariants.{Ok, Err}
-use Rattle.cell_text.specs.Numbers.{is_digits, decimal}
+use Rattle.plain_text.specs.Digits.{is_count, value_of_digits}
 use Rattle.magsym.specs.declared.options.Awaited.TheVariants.{AnyOption, ValueOfSkip, ValueOfTake}
 use Rattle.magsym.specs.declared.options.Options.{Options}
 use Rattle.magsym.specs.declared.command.Command.{Command}
@@ -25,13 +25,9 @@ use Rattle.magsym.specs.declared.command.UsageFault.TheVariants.{NoCommand, Unkn
 abbrev pub same_word : List ℕ → List ℕ → Bool
 same_word v w = pointwise nat_eq v w
 
--- 1 to 9 digits, and nothing else
-abbrev pub is_count : List ℕ → Bool
-is_count word = is_digits word && nat_le (length word) 9
-
 -- the value of 1 to 9 digits
 abbrev pub count_of : List ℕ → Result ℕ UsageFault
-count_of word = if is_count word then Ok (decimal word) else Err BadValue
+count_of word = if is_count word then Ok (value_of_digits word) else Err BadValue
 
 -- no option was read
 abbrev pub no_options : Options

@@ -6,7 +6,8 @@
 --   ComeInAnyOrder     two neighbours among the options may be exchanged
 -- Our own.
 use Rattle.std.specs.Prelude.{◌≡◌, ℕ, true, List, [], ◌∷◌, ◌++◌, codes}
-use Rattle.magsym.specs.Commands.{is_count, command}
+use Rattle.plain_text.specs.Digits.{is_count}
+use Rattle.magsym.specs.Commands.{command}
 
 -- an option, with its value where it has one
 pub data Choice : Type 0 where

@@ -1,8 +1,7 @@
 // The options of `symmetry`, read word by word.
 
-ghost use Rattle.std.specs.Prelude.{◌≡◌, true};
-ghost use Rattle.cell_text.specs.Numbers.{decimal};
-ghost use Rattle.magsym.specs.Commands.{is_count, count_of, no_options, without_time, awaiting_skip, awaiting_take, with_option, with_skip, with_take, with_word, asked};
+ghost use Rattle.std.specs.Prelude.{◌≡◌};
+ghost use Rattle.magsym.specs.Commands.{count_of, no_options, without_time, awaiting_skip, awaiting_take, with_option, with_skip, with_take, with_word, asked};
 ghost use Rattle.magsym.specs.OptionOrder.{ComeInAnyOrder};
 
 use crate::command::{Command, UsageFault};
@@ -29,42 +28,11 @@ pub(crate) struct Options {
     pub awaited: Awaited,
 }
 
-/// Whether there are 1 to 9 digits, and nothing else.
-fn is_count(word: &[u8]) -> bool
-    ensures { result ≡ is_count word.now }
-{
-    if word.is_empty() || word.len() > 9 {
-        return false;
-    }
-    for b in word {
-        if *b < b'0' || b'9' < *b {
-            return false;
-        }
-    }
-    true
-}
-
-/// The value of at most 9 digits.
-fn decimal(digits: &[u8]) -> u32
-    requires { is_count digits.now ≡ true }
-    ensures { result ≡ decimal digits.now }
-{
-    let mut value: u32 = 0;
-    for b in digits {
-        value = 10 * value + (*b - b'0') as u32;
-    }
-    value
-}
-
 /// The value of 1 to 9 digits.
 fn count(word: &[u8]) -> Result<u32, UsageFault>
     ensures { result ≡ count_of word.now }
 {
-    if is_count(word) {
-        Ok(decimal(word))
-    } else {
-        Err(UsageFault::BadValue)
-    }
+    plain_text::count(word).ok_or(UsageFault::BadValue)
 }
 
 impl Options {

@@ -194,7 +194,8 @@ fn with_sign(negative: bool, size: u128) -> i128
     if negative { -number } else { number }
 }
 
-/// d times the fraction; d is a multiple of the denominator.
+/// d times the fraction, where d is a multiple of the denominator; else its numerator times the whole part of d over the
+/// denominator. Asks that d is at most 10^9.
 pub fn times(f: &NumberWord, d: u128) -> i128
     requires { d ≤ 1000000000 }
     ensures value { result ≡ scaled d (fraction_of f.now) }

@@ -1,4 +1,4 @@
-// A number as it is written. Its functions stand in `number.rt`, since a definition that sees this type sees no file that cites it.
+// A number as it is written. Its functions stand in `number.rt`: their contracts cite definitions that see this type.
 ghost use Rattle.std.specs.Prelude.{◌<◌, ◌^◌};
 
 /// A fraction in lowest terms with parts of at most 18 digits, with its sign apart.

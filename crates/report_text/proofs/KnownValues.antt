@@ -12,7 +12,7 @@ use Rattle.crystal_spec.specs.Crystals.{Site, Structure}
 use Rattle.crystal_spec.specs.Operations.{Operation}
 use Rattle.op_group.specs.Lists.{OperationList}
 use Rattle.site_orbits.specs.Entries.{AtomOrbit}
-use Rattle.cell_print.specs.CellFileText.{number_text}
+use Rattle.plain_text.specs.NumberText.{number_text}
 use Rattle.serde_json.proofs.OnLiterals.{serde_json_on_literals}
 use Rattle.report_text.specs.OperationText.{row_text, parts_text, operation_text}
 use Rattle.report_text.specs.Pages.{page_text}

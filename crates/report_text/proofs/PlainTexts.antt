@@ -9,7 +9,7 @@ use Rattle.crystal_spec.specs.declared.Sign.{Sign}
 use Rattle.crystal_spec.specs.declared.Sign.TheVariants.{Same, Reversed}
 use Rattle.crystal_spec.specs.Operations.{Operation}
 use Rattle.crystal_spec.specs.Matrices.{Matrix}
-use Rattle.cell_print.specs.CellFileText.{denominator_text, size_text, number_text, numbers_text}
+use Rattle.plain_text.specs.NumberText.{denominator_text, size_text, number_text, numbers_text}
 use Rattle.report_text.specs.OperationText.{plus_text, term_text, terms_text, is_zero, fraction_text, row_text, sign_text, parts_text}
 use Rattle.report_text.specs.PrimitiveText.{integers_text, entries_text}
 

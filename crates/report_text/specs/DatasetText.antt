@@ -16,7 +16,8 @@ use Rattle.crystal_spec.specs.Operations.{Operation}
 use Rattle.op_group.specs.Lists.{OperationList}
 use Rattle.mag_type.specs.declared.classification.Kind.{Kind}
 use Rattle.site_orbits.specs.Entries.{AtomOrbit}
-use Rattle.cell_print.specs.CellFileText.{numbers_text, scalar_products}
+use Rattle.plain_text.specs.NumberText.{numbers_text}
+use Rattle.cell_print.specs.CellFileText.{scalar_products}
 use Rattle.serde_json.specs.Data.{Data, number, unsigned, string, array, object, Items, member, no_members}
 use Rattle.serde_json.specs.View.{items_of}
 use Rattle.serde_json.specs.Written.{compact_text}

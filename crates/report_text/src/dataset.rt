@@ -1,15 +1,13 @@
 // The text of what is found of a cell, as JSON.
-ghost use Rattle.std.specs.Prelude.{◌≡◌, ◌++◌, ◌≤◌, ◌<◌, drop, length, slice_get, IfSome, string_bytes, IsAscii, IfOk, OnOk};
-ghost use Rattle.crystal.specs.Views.{metric_of};
+ghost use Rattle.std.specs.Prelude.{◌≡◌, ◌≤◌, ◌<◌, drop, length, slice_get, IfSome, string_bytes, IsAscii, IfOk};
 ghost use Rattle.op_group.specs.Views.{operation_of};
-ghost use Rattle.cell_print.specs.CellFileText.{numbers_text, scalar_products};
 ghost use Rattle.serde_json.specs.View.{view, items_view};
 ghost use Rattle.report_text.specs.DatasetText.{entries_words, metric_words, operation_data, operation_items, orbit_data, orbit_items, site_data, site_items, AreFirstsBelow, dataset, dataset_text};
 
-use crate::fractions::push_numbers;
 use crate::operations::push_parts;
 use crate::primitives::push_entries;
-use crystal::{Cell, Metric};
+use cell_print::push_products;
+use crystal::Cell;
 use exact_num::Int;
 use io_edge::Bytes;
 use mag_type::Kind;
@@ -36,28 +34,6 @@ fn entries_words(alloc: Global, matrix: &Mat3<Int>) -> Result<String, AllocError
     let mut words = Bytes::new(alloc);
     push_entries(alloc, &mut words, matrix)?;
     words_behind_space(alloc, &words)
-}
-
-/// Adds the six scalar products of the axes, of a metric tensor in units of 1/scale, a space before each.
-fn push_products(
-    alloc: Global,
-    out: &mut Bytes,
-    scale: u128,
-    metric: &Metric,
-) -> Result<(), AllocError>
-    requires { 1 ≤ scale }
-    ensures { OnOk result (out.new ≡ out.old ++ numbers_text scale (scalar_products (metric_of metric.now))) }
-{
-    let g = *metric;
-    let products = [
-        g.aa.get(),
-        g.bb.get(),
-        g.cc.get(),
-        g.bc.get(),
-        g.ac.get(),
-        g.ab.get(),
-    ];
-    push_numbers(alloc, out, &products, scale)
 }
 
 /// The six scalar products of the axes of a cell in lowest terms, with single spaces between.

@@ -8,7 +8,6 @@
 #![tactic(auto)]
 
 mod dataset;
-mod fractions;
 mod operations;
 mod orbit_lines;
 mod pages;

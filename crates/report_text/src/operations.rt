@@ -1,5 +1,5 @@
 // The lines of symmetry operations.
-ghost use Rattle.std.specs.Prelude.{decimal, ◌≡◌, ◌++◌, ◌∷◌, [], pos, OnOk, IfOk};
+ghost use Rattle.std.specs.Prelude.{◌≡◌, ◌++◌, ◌∷◌, [], pos, OnOk, IfOk};
 ghost use Rattle.op_group.specs.Views.{operation_of};
 ghost use Rattle.report_text.specs.OperationText.{plus_text, term_text, terms_text, fraction_text, row_text, sign_text, parts_text, operation_text};
 ghost use Rattle.report_text.specs.Pages.{page_text};
@@ -9,6 +9,7 @@ use crystal_spec::Sign;
 use exact_num::{Int, gcd};
 use io_edge::Bytes;
 use op_group::{Op, OpList};
+use plain_text::push_decimal;
 use std::alloc::{AllocError, Global};
 
 /// Adds a plus, but not before the first term.
@@ -16,14 +17,6 @@ fn push_plus(out: &mut Bytes, is_first: bool) -> Result<(), AllocError>
     ensures { OnOk result (out.new ≡ out.old ++ plus_text is_first) }
 {
     if is_first { Ok(()) } else { out.push(b'+') }
-}
-
-/// Adds a number in decimal.
-fn push_number(alloc: Global, out: &mut Bytes, number: u128) -> Result<(), AllocError>
-    ensures { OnOk result (out.new ≡ out.old ++ decimal number) }
-{
-    let digits = number.to_string(alloc)?;
-    out.append(digits.as_bytes())
 }
 
 /// Adds the term of a coefficient and a letter.
@@ -52,7 +45,7 @@ fn push_term(
             } else {
                 push_plus(out, is_first)?;
             }
-            push_number(alloc, out, coefficient.unsigned_abs())?;
+            push_decimal(alloc, out, coefficient.unsigned_abs())?;
             out.push(letter)
         }
     }
@@ -76,9 +69,9 @@ fn push_fraction(alloc: Global, out: &mut Bytes, n: u32, t: u32) -> Result<(), A
     }
     let divisor = gcd(t, n);
     out.push(b'+')?;
-    push_number(alloc, out, (t / divisor) as u128)?;
+    push_decimal(alloc, out, (t / divisor) as u128)?;
     out.push(b'/')?;
-    push_number(alloc, out, (n / divisor) as u128)
+    push_decimal(alloc, out, (n / divisor) as u128)
 }
 
 /// Adds the part of a coordinate: the terms of a row of the matrix, and a translation of t/n.

@@ -2,11 +2,12 @@
 ghost use Rattle.std.specs.Prelude.{◌≡◌, ◌++◌, ◌+◌, ◌<◌, length, slice_get, IfOk, OnOk, IfSome};
 ghost use Rattle.report_text.specs.OrbitText.{counted_text, atom_text, atom_lines, orbit_lines_of, orbit_part, orbit_lines, orbit_text};
 
-use crate::fractions::push_decimal;
 use crate::operations::ops_report;
+use cell_print::push_name;
 use crystal::{Cell, Name};
 use io_edge::Bytes;
 use op_group::OpList;
+use plain_text::push_decimal;
 use site_orbits::Orbits;
 use std::alloc::{AllocError, Global};
 
@@ -21,16 +22,6 @@ fn push_counted(
 {
     out.append(words)?;
     push_decimal(alloc, out, number)?;
-    Ok(())
-}
-
-/// Adds a name.
-fn push_name(out: &mut Bytes, name: &Name) -> Result<(), AllocError>
-    ensures { OnOk result (out.new ≡ out.old ++ name.now) }
-{
-    for i in 0..name.count() {
-        out.push(name.byte(i))?;
-    }
     Ok(())
 }
 

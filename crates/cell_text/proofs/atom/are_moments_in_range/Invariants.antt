@@ -1,6 +1,6 @@
 use Rattle.std.proofs.Common.{◌≡◌, drop, map}
 use Rattle.std.specs.List.{list_all}
-use Rattle.cell_text.specs.Numbers.{scaled}
+use Rattle.plain_text.specs.NumberWords.{scaled}
 use Rattle.cell_text.specs.Entries.{moments, is_billion}
 use Rattle.cell_text.specs.Views.{atom_view}
 use Rattle.cell_text.proofs.atom.are_moments_in_range.Given as goal

@@ -1,5 +1,5 @@
 use Rattle.std.proofs.Common.{◌≡◌, ◌+◌, ℕ, List, [], ◌∷◌, ◌++◌, None, refl, sym, ap, ◌∙◌, arith, append_assoc, length-append}
-use Rattle.cell_text.specs.Text.{lines}
+use Rattle.plain_text.specs.Text.{lines}
 use Rattle.cell_text.specs.Entries.{contents}
 use Rattle.cell_text.specs.Rules.{cell_fault, first_fault, fault_after, judged}
 use Rattle.cell_text.specs.Views.{State, state_with, with_line}

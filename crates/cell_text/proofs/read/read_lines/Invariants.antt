@@ -1,5 +1,5 @@
 use Rattle.std.proofs.Common.{◌≡◌, ◌+◌, ◌≤◌, ℕ, List, ◌++◌, length}
-use Rattle.cell_text.specs.Text.{lines}
+use Rattle.plain_text.specs.Text.{lines}
 use Rattle.cell_text.specs.Entries.{contents}
 use Rattle.cell_text.specs.Rules.{first_fault, cell_fault}
 use Rattle.cell_text.specs.Views.{state_with}

@@ -1,7 +1,8 @@
 use Rattle.std.proofs.Common.{◌≡◌, ◌++◌, ap, ◌∙◌, subst, sym, List, ℕ}
 use Rattle.std.specs.Prelude.{IsAscii}
 use Rattle.crystal.specs.Views.{metric_of}
-use Rattle.cell_print.specs.CellFileText.{numbers_text, scalar_products}
+use Rattle.plain_text.specs.NumberText.{numbers_text}
+use Rattle.cell_print.specs.CellFileText.{scalar_products}
 use Rattle.report_text.proofs.PlainTexts.{ascii_numbers}
 use Rattle.report_text.proofs.dataset.metric_words.Goals as goal
 

@@ -1,7 +1,0 @@
-use Rattle.std.proofs.Common.{◌≡◌, ◌++◌, drop}
-use Rattle.cell_print.specs.CellFileText.{numbers_text}
-use Rattle.cell_print.proofs.fractions.push_numbers.Given as goal
-
--- the numbers so far, and those that are left
-abbrev pub invariant-loop-number : goal.invariant-loop-number
-invariant-loop-number l = l.out ++ numbers_text l.d (drop l.number-index l.numbers) ≡ l.initial.out ++ numbers_text l.d l.numbers

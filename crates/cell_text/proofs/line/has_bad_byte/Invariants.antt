@@ -1,7 +1,0 @@
-use Rattle.std.proofs.Common.{◌≡◌, take, false}
-use Rattle.std.specs.List.{list_any}
-use Rattle.cell_text.specs.Lines.{is_bad_byte}
-use Rattle.cell_text.proofs.line.has_bad_byte.Given as goal
-
-abbrev pub invariant-loop-b : goal.invariant-loop-b
-invariant-loop-b l = list_any is_bad_byte (take l.b-index l.line) ≡ false
