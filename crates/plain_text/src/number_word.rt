@@ -6,8 +6,11 @@ ghost use Rattle.std.specs.Prelude.{◌<◌, ◌^◌};
 /// Contracts see it as the `Fraction` of the crate numbers.
 #[derive(Clone, Copy)]
 pub struct NumberWord {
+    /// Whether it has a `-`; 0 may have one.
     pub negative: bool,
+    /// The size of the numerator.
     pub num: u128,
+    /// The denominator.
     pub den: u128,
     ghost positive: { 0 < den },
     ghost short_num: { num < 10 ^ 18 },
