@@ -2,4 +2,5 @@ pub mod Adapters
 pub mod Causes
 pub mod InMemory
 pub mod Reading
+pub mod States
 pub mod Writing

@@ -2,11 +2,12 @@
 --   WritesSome   one write took some bytes of the piece
 --   WritesAll    all the bytes went out, or how many did, and why not all
 -- Our own.
-use Rattle.std.specs.Prelude.{◌≡◌, ℕ, ◌<◌, ◌≤◌, Bool, true, List, length, take, IfOk, MatchResult}
+use Rattle.std.specs.Prelude.{◌≡◌, ℕ, ◌<◌, ◌≤◌, true, List, length, take, IfOk, MatchResult}
 use Rattle.std.specs.declared.option.Option.{Option}
 use Rattle.std.specs.declared.result.Result.{Result}
 use Rattle.std.specs.Io.KnownBytes.{Appends}
 use Rattle.io_edge.specs.Causes.{Rose}
+use Rattle.io_edge.specs.States.{SinkState}
 use Rattle.io_edge.specs.declared.sink.OutFault.{OutFault}
 
 -- at least one byte of the piece, and no more than it has
@@ -14,9 +15,8 @@ abbrev pub WritesSome : {E : Type 0} → Result ℕ E → List ℕ → Type 0
 WritesSome result piece = IfOk result (λ n. (0 < n) × (n ≤ length piece))
 
 -- At Ok all the bytes were appended. At a fault exactly the first `written` bytes were, fewer than all, the last write
--- failed, and the count of faults rose. `held` and `held'` are the bytes held before and after, `before` and `now` the counts
--- of faults, whose highest number is `highest`, and `failed` is whether the last write failed.
-abbrev pub WritesAll : Option ℕ → Option (List ℕ) → Option (List ℕ) → ℕ → ℕ → Bool → List ℕ → Result (Unit {0}) OutFault → Type 0
-WritesAll highest held held' before now failed bytes result = MatchResult result
-    (λ _. Appends held held' bytes)
-    (λ fault. (fault.written < length bytes) × Appends held held' (take fault.written bytes) × Rose highest before now × (failed ≡ true))
+-- failed, and the count of faults, which has this highest number, rose.
+abbrev pub WritesAll : Option ℕ → SinkState → SinkState → List ℕ → Result (Unit {0}) OutFault → Type 0
+WritesAll highest before after bytes result = MatchResult result
+    (λ _. Appends before.held after.held bytes)
+    (λ fault. (fault.written < length bytes) × Appends before.held after.held (take fault.written bytes) × Rose highest before.faults after.faults × (after.last_failed ≡ true))

@@ -1,13 +1,13 @@
 //! Bytes from readers and to writers, with a count of the failures on each side.
 //!
-//! A source or a sink has ghost members that contracts cite: how often it has failed, and, where
+//! A source or a sink has a ghost state that contracts cite: how often it has failed, and, where
 //! it tells them, the bytes that are left or held. A failed call is answered only where that count
 //! rose, so no caller can blame a device that worked. Each says whether its count has a highest
 //! number, at which it stays; a sink says also whether the last write failed.
 //!
-//! Definitions: `specs/Causes` (when a call may fail), `specs/Reading` and `specs/Writing` (what
-//! was taken and what went out), `specs/InMemory` (what the objects in memory do at each call),
-//! `specs/Adapters` (what the adapters over std hold).
+//! Definitions: `specs/States` (what a source or sink tells), `specs/Causes` (when a call may
+//! fail), `specs/Reading` and `specs/Writing` (what was taken and what went out), `specs/InMemory`
+//! (what the objects in memory do at each call), `specs/Adapters` (what the adapters over std hold).
 #![tactic(auto)]
 
 mod bytes;

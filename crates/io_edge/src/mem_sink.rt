@@ -77,13 +77,13 @@ impl MemSink {
 }
 
 impl Sink for MemSink {
-    ghost held = { λ s. Some s.held };
-
-    ghost faults = { λ s. s.faults };
+    ghost state = { λ s. record {
+      held = Some s.held;
+      faults = s.faults;
+      last_failed = s.last_failed;
+    } };
 
     ghost highest_count = { Some (2 ^ 64 - 1) };
-
-    ghost last_failed = { λ s. s.last_failed };
 
     /// Takes as many bytes as the piece, `most` and the room left allow.
     fn write(&mut self, piece: &[u8]) -> Result<usize, Failed>

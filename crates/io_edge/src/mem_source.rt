@@ -74,15 +74,14 @@ impl MemSource {
 }
 
 impl Source for MemSource {
-    ghost left = { λ s. Some s.left };
-
-    ghost faults = { λ s. s.faults };
+    ghost state = { λ s. record {
+      left = Some s.left;
+      faults = s.faults;
+      end_is_seen = s.end_is_seen;
+      read_past_end = s.read_past_end;
+    } };
 
     ghost highest_count = { None };
-
-    ghost end_is_seen = { λ s. s.end_is_seen };
-
-    ghost read_past_end = { λ s. s.read_past_end };
 
     /// Gives as many bytes as the buffer, `most` and what is left allow.
     fn read(&mut self, buf: &mut [u8]) -> Result<usize, Failed>

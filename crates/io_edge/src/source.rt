@@ -1,10 +1,11 @@
 // What bytes come from, and reading all of it.
-ghost use Rattle.std.specs.Prelude.{◌≡◌, ℕ, Bool, List, ◌<◌, ◌≤◌, ◌+◌, ◌^◌, ◌||◌, length};
+ghost use Rattle.std.specs.Prelude.{◌≡◌, ℕ, ◌<◌, ◌≤◌, ◌+◌, ◌^◌, ◌||◌, length};
 ghost use Rattle.std.specs.declared.option.Option.{Option};
 ghost use Rattle.std.specs.Io.{ReadsAtMost};
 ghost use Rattle.std.specs.Io.KnownBytes.{ReadConsumes};
 ghost use Rattle.io_edge.specs.Causes.{HasCause, is_end};
 ghost use Rattle.io_edge.specs.Reading.{ReadsAll, TakesAtMost, StopsAtEnd};
+ghost use Rattle.io_edge.specs.States.{SourceState};
 
 use crate::bytes::Bytes;
 use std::alloc::Global;
@@ -32,20 +33,11 @@ pub enum InFault {
 
 /// What bytes come from.
 pub trait Source {
-    /// The bytes that are left, where it tells them.
-    ghost left: { Self → Option (List ℕ) };
+    /// The bytes that are left, how often it has failed, and what it saw of the end of input.
+    ghost state: { Self → SourceState };
 
-    /// How often it has failed. This never falls.
-    ghost faults: { Self → ℕ };
-
-    /// The highest number of that count, at which it stays; `None` where it counts on.
+    /// The highest number of its count of faults, at which it stays; `None` where it counts on.
     ghost highest_count: { Option ℕ };
-
-    /// Whether the last read saw the end of input.
-    ghost end_is_seen: { Self → Bool };
-
-    /// Whether a read ever came right behind one that saw the end of input.
-    ghost read_past_end: { Self → Bool };
 
     /// Puts the next bytes in front of the buffer, which isn't empty, and says how many.
     ///
@@ -53,10 +45,11 @@ pub trait Source {
     fn read(&mut self, buf: &mut [u8]) -> Result<usize, Failed>
         requires { 0 < length buf.old }
         ensures within { ReadsAtMost result buf.new }
-        ensures taken { ReadConsumes (left self.old) (left self.new) result buf.new }
-        ensures cause { HasCause highest_count (faults self.old) (faults self.new) result }
-        ensures end { end_is_seen self.new ≡ is_end result }
-        ensures past { read_past_end self.new ≡ (end_is_seen self.old || read_past_end self.old) };
+        ensures taken { ReadConsumes (state self.old).left (state self.new).left result buf.new }
+        ensures cause { HasCause highest_count (state self.old).faults (state self.new).faults result }
+        ensures end { (state self.new).end_is_seen ≡ is_end result }
+        ensures past { (state self.new).read_past_end
+            ≡ ((state self.old).end_is_seen || (state self.old).read_past_end) };
 }
 
 const CHUNK: usize = 4096;
@@ -66,11 +59,10 @@ const CHUNK: usize = 4096;
 /// It takes no more than `limit + 1` bytes, and reads nothing behind the end. What a refusal took is lost.
 pub fn read_to_end<S: Source>(alloc: Global, src: &mut S, limit: usize) -> Result<Bytes, InFault>
     requires { limit + 1 < 2 ^ 64 }
-    ensures taken { ReadsAll S.highest_count limit (S.left src.old) (S.left src.new)
-        (S.faults src.old) (S.faults src.new) (S.end_is_seen src.new) result }
-    ensures at_most { TakesAtMost (limit + 1) (S.left src.old) (S.left src.new) }
-    ensures stops { StopsAtEnd (S.end_is_seen src.old) (S.read_past_end src.old) (S.read_past_end src.new) }
-    ensures later { S.faults src.old ≤ S.faults src.new }
+    ensures taken { ReadsAll S.highest_count limit (S.state src.old) (S.state src.new) result }
+    ensures at_most { TakesAtMost (limit + 1) (S.state src.old) (S.state src.new) }
+    ensures stops { StopsAtEnd (S.state src.old) (S.state src.new) }
+    ensures later { (S.state src.old).faults ≤ (S.state src.new).faults }
 {
     let mut bytes = Bytes::new(alloc);
     let mut buf = [0u8; CHUNK];

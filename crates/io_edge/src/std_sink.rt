@@ -42,13 +42,13 @@ impl<W: Write + Drop> StdSink<W> {
 }
 
 impl<W: Write + Drop> Sink for StdSink<W> {
-    ghost held = { λ s. W.contents s.writer };
-
-    ghost faults = { λ s. s.faults };
+    ghost state = { λ s. record {
+      held = W.contents s.writer;
+      faults = s.faults;
+      last_failed = s.last_failed;
+    } };
 
     ghost highest_count = { Some (2 ^ 64 - 1) };
-
-    ghost last_failed = { λ s. s.last_failed };
 
     /// Writes once to the writer, which gets the bytes.
     fn write(&mut self, piece: &[u8]) -> Result<usize, Failed>

@@ -49,15 +49,14 @@ impl<R: Read + Drop> StdSource<R> {
 }
 
 impl<R: Read + Drop> Source for StdSource<R> {
-    ghost left = { λ s. R.remaining s.reader };
-
-    ghost faults = { λ s. s.faults };
+    ghost state = { λ s. record {
+      left = R.remaining s.reader;
+      faults = s.faults;
+      end_is_seen = s.end_is_seen;
+      read_past_end = s.read_past_end;
+    } };
 
     ghost highest_count = { Some (2 ^ 64 - 1) };
-
-    ghost end_is_seen = { λ s. s.end_is_seen };
-
-    ghost read_past_end = { λ s. s.read_past_end };
 
     /// Reads once from the reader, whose bytes it gives.
     fn read(&mut self, buf: &mut [u8]) -> Result<usize, Failed>

@@ -36,9 +36,9 @@ complete_of_outcome ws s (Usage fault) o a =
 complete_of_outcome ws s (WriteFault written kept) o a = absurd (a.output_works o.cause)
 complete_of_outcome ws s ReadFault o a = absurd (a.input_works o.1.cause)
 complete_of_outcome ws s (CellRefused line fault) o a =
-    let same = read_is_text s.left s.left_after a.text o.1.text a.is_input o.1.read.taken o.1.read.none_left in
+    let same = read_is_text s.input.left s.input_after.left a.text o.1.text a.is_input o.1.read.taken o.1.read.none_left in
     let none : cell_fault o.1.text ≡ None = subst (λ (t : List ℕ). cell_fault t ≡ None) same a.spelled.faultless in
     let some : cell_fault o.1.text ≡ Some (line, fault) = o.1.first in absurd cc
 complete_of_outcome ws s CellTooLong o a =
-    let within = taken_within s.left s.left_after a.text o.1.taken a.is_input o.1.consumed in
+    let within = taken_within s.input.left s.input_after.left a.text o.1.taken a.is_input o.1.consumed in
     absurd (omega (arith, within, o.1.count, a.short))

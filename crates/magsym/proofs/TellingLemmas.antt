@@ -1,5 +1,5 @@
 -- Pieces of a line, one after another.
-use Rattle.std.proofs.Common.{◌≡◌, refl, sym, ap, ◌∙◌, ◌⊎◌, inl, inr, ℕ, ◌≤◌, List, [], ◌∷◌, ◌++◌, length, take, drop, append_assoc, arith, get_or, map, Bool, true, false, Bor}
+use Rattle.std.proofs.Common.{◌≡◌, refl, sym, ap, ◌∙◌, ◌⊎◌, inl, inr, ℕ, ◌≤◌, List, [], ◌∷◌, ◌++◌, length, take, drop, append_assoc, arith, get_or, map, true, false, Bor}
 use Rattle.std.proofs.lemmas.List.{take-append-drop, append-nil}
 use Rattle.std.specs.Prelude.{Some, None, Option, is_ok}
 use Rattle.std.specs.List.{concat}
@@ -7,6 +7,7 @@ use Rattle.std.specs.declared.result.Result.{Result}
 use Rattle.std.specs.declared.result.Result.TheVariants.{Ok, Err}
 use Rattle.std.specs.Io.KnownBytes.{Appends}
 use Rattle.io_edge.specs.Causes.{Rose}
+use Rattle.io_edge.specs.States.{SinkState}
 use Rattle.io_edge.specs.Writing.{WritesAll}
 use Rattle.io_edge.specs.declared.sink.OutFault.{OutFault}
 use Rattle.magsym.specs.Telling.{Tells}
@@ -22,8 +23,8 @@ appends_both (Some a) (Some b) None xs ys p q = absurd q
 appends_both (Some a) (Some b) (Some c) xs ys p q = q ∙ ap (λ zs. zs ++ ys) p ∙ append_assoc a xs ys
 
 -- nothing to tell
-pub tells_nothing : (highest : Option ℕ) (a : Option (List ℕ)) (n : ℕ) (failed : Bool) → Tells highest a a n n failed []
-tells_nothing highest a n failed = record { front = []; rest = []; are = refl; written = appends_none a; whole = inl refl }
+pub tells_nothing : (highest : Option ℕ) (a : SinkState) → Tells highest a a []
+tells_nothing highest a = record { front = []; rest = []; are = refl; written = appends_none a.held; whole = inl refl }
 
 -- what rose from a later count on rose from an earlier one
 rose_before : (highest : Option ℕ) (f g h : ℕ) → f ≤ g → Rose highest g h → Rose highest f h
@@ -31,22 +32,22 @@ rose_before None f g h later r = omega (arith, later, r)
 rose_before (Some most) f g h later r = omega (arith, later, r)
 
 -- a piece, and then the rest of the line
-pub tells_more : (highest : Option ℕ) (a b c : Option (List ℕ)) (f g h : ℕ) (failed : Bool) (piece line : List ℕ) → Appends a b piece → f ≤ g → Tells highest b c g h failed line → Tells highest a c f h failed (piece ++ line)
-tells_more highest a b c f g h failed piece line p later t = record {
+pub tells_more : (highest : Option ℕ) (a b c : SinkState) (piece line : List ℕ) → Appends a.held b.held piece → a.faults ≤ b.faults → Tells highest b c line → Tells highest a c (piece ++ line)
+tells_more highest a b c piece line p later t = record {
   front = piece ++ t.front;
   rest = t.rest;
   are = ap (λ zs. piece ++ zs) t.are ∙ sym (append_assoc piece t.front t.rest);
-  written = appends_both a b c piece t.front p t.written;
+  written = appends_both a.held b.held c.held piece t.front p t.written;
   whole = by t.whole;
 }
   where
-    by : (t.rest ≡ []) ⊎ ((failed ≡ true) × Rose highest g h) → (t.rest ≡ []) ⊎ ((failed ≡ true) × Rose highest f h)
+    by : (t.rest ≡ []) ⊎ ((c.last_failed ≡ true) × Rose highest b.faults c.faults) → (t.rest ≡ []) ⊎ ((c.last_failed ≡ true) × Rose highest a.faults c.faults)
     by (inl e) = inl e
-    by (inr r) = inr (r.0, rose_before highest f g h later r.1)
+    by (inr r) = inr (r.0, rose_before highest a.faults b.faults c.faults later r.1)
 
 -- a piece that was cut off
-pub tells_part : (highest : Option ℕ) (a b : Option (List ℕ)) (f g : ℕ) (failed : Bool) (piece line : List ℕ) (n : ℕ) → Appends a b (take n piece) → Rose highest f g → failed ≡ true → Tells highest a b f g failed (piece ++ line)
-tells_part highest a b f g failed piece line n p r last = record {
+pub tells_part : (highest : Option ℕ) (a b : SinkState) (piece line : List ℕ) (n : ℕ) → Appends a.held b.held (take n piece) → Rose highest a.faults b.faults → b.last_failed ≡ true → Tells highest a b (piece ++ line)
+tells_part highest a b piece line n p r last = record {
   front = take n piece;
   rest = drop n piece ++ line;
   are = ap (λ zs. zs ++ line) (sym (take-append-drop n piece)) ∙ append_assoc (take n piece) (drop n piece) line;
@@ -55,11 +56,11 @@ tells_part highest a b f g failed piece line n p r last = record {
 }
 
 -- the first of several pieces was cut off
-pub tells_first_part : (pieces : List (Bor (List ℕ))) (d : Bor (List ℕ)) (highest : Option ℕ) (a b : Option (List ℕ)) (f g : ℕ) (failed : Bool) (result : Result (Unit {0}) OutFault) → 1 ≤ length pieces → is_ok result ≡ false → WritesAll highest a b f g failed (get_or pieces 0 d).now result → Tells highest a b f g failed (concat (map (λ (piece : Bor (List ℕ)). piece.now) pieces))
-tells_first_part [] d highest a b f g failed result h e w = absurd (omega arith)
-tells_first_part (piece ∷ rest) d highest a b f g failed (Ok u) h e w = absurd (cc e)
-tells_first_part (piece ∷ rest) d highest a b f g failed (Err fault) h e w =
-    tells_part highest a b f g failed piece.now (concat (map (λ (p : Bor (List ℕ)). p.now) rest)) fault.written w.1 w.2 w.3
+pub tells_first_part : (pieces : List (Bor (List ℕ))) (d : Bor (List ℕ)) (highest : Option ℕ) (a b : SinkState) (result : Result (Unit {0}) OutFault) → 1 ≤ length pieces → is_ok result ≡ false → WritesAll highest a b (get_or pieces 0 d).now result → Tells highest a b (concat (map (λ (piece : Bor (List ℕ)). piece.now) pieces))
+tells_first_part [] d highest a b result h e w = absurd (omega arith)
+tells_first_part (piece ∷ rest) d highest a b (Ok u) h e w = absurd (cc e)
+tells_first_part (piece ∷ rest) d highest a b (Err fault) h e w =
+    tells_part highest a b piece.now (concat (map (λ (p : Bor (List ℕ)). p.now) rest)) fault.written w.1 w.2 w.3
 
 -- four pieces, one after another
 pub four_pieces : (a b c d : List ℕ) → a ++ (b ++ (c ++ (d ++ []))) ≡ a ++ b ++ c ++ d

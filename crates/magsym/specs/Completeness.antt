@@ -14,12 +14,12 @@ use Rattle.magsym.specs.Outcomes.{Streams, IsAsked}
 pub record IsAnswerable (ws : List (List ℕ)) (s : Streams) : Type 0 where
   pub asked : IsAsked ws
   pub text : List ℕ
-  pub is_input : s.left ≡ Some text
+  pub is_input : s.input.left ≡ Some text
   pub short : length text ≤ 262144
   pub cell : Structure
   pub spelled : Spells text cell
-  pub input_works : Rose s.in_highest s.in_faults s.in_faults_after → ⊥
-  pub output_works : Rose s.out_highest s.out_faults s.out_faults_after → ⊥
+  pub input_works : Rose s.in_highest s.input.faults s.input_after.faults → ⊥
+  pub output_works : Rose s.out_highest s.output.faults s.output_after.faults → ⊥
 
 -- the whole report is written, or memory was wanting
 abbrev pub IsDoneOrMemory : Status → Type 0

@@ -1,5 +1,5 @@
 -- What each status of a run says of the words, the input and the output.
---   Streams                the input and the output, before and after
+--   Streams, streams       the input and the output, before and after
 --   ReadWhole s text       all of the input is this text, and its end was seen
 --   SymmetryReport c time skip most bytes   the lines of a page of the symmetry operations of the crystal c
 --   IsPrimitiveReport c q bytes             the text of the primitive cell of c in the basis to which q takes coordinates
@@ -15,6 +15,7 @@ use Rattle.std.specs.declared.option.Option.TheVariants.{Some}
 use Rattle.std.specs.declared.result.Result.TheVariants.{Ok, Err}
 use Rattle.std.specs.Io.KnownBytes.{Appends, Consumes, IsAtEnd}
 use Rattle.io_edge.specs.Causes.{Rose}
+use Rattle.io_edge.specs.States.{SourceState, SinkState}
 use Rattle.crystal_spec.specs.Matrices.{Matrix, determinant}
 use Rattle.crystal_spec.specs.Crystals.{Structure}
 use Rattle.crystal_spec.specs.Operations.{Operation, ListsAll}
@@ -41,27 +42,24 @@ use Rattle.magsym.specs.declared.status.Status.{Status}
 use Rattle.magsym.specs.declared.status.Status.TheVariants.{Done, Usage, CellTooLong, CellRefused, ReadFault, WriteFault, Memory}
 use Rattle.magsym.specs.Commands.{command}
 
--- The bytes that are left of the input before and after, its counts of faults with the number at which they stay, and whether
--- an end is seen after; the bytes that the output holds before and after, and its counts of faults with that number. Bytes are
--- told by some inputs and outputs alone.
+-- What the input and the output tell before and after, and the numbers at which their counts of faults stay.
 pub record Streams : Type 0 where
-  pub left : Option (List ℕ)
-  pub left_after : Option (List ℕ)
-  pub in_faults : ℕ
-  pub in_faults_after : ℕ
   pub in_highest : Option ℕ
-  pub end_is_seen : Bool
-  pub held : Option (List ℕ)
-  pub held_after : Option (List ℕ)
-  pub out_faults : ℕ
-  pub out_faults_after : ℕ
+  pub input : SourceState
+  pub input_after : SourceState
   pub out_highest : Option ℕ
+  pub output : SinkState
+  pub output_after : SinkState
+
+-- the input before and after, and the output before and after, each behind the number at which its count of faults stays
+abbrev pub streams : Option ℕ → SourceState → SourceState → Option ℕ → SinkState → SinkState → Streams
+streams in_highest input input_after out_highest output output_after = record { in_highest = in_highest; input = input; input_after = input_after; out_highest = out_highest; output = output; output_after = output_after }
 
 -- the text is all that was left, at most 262,144 bytes, nothing is left, and the end is seen
 pub record ReadWhole (s : Streams) (text : List ℕ) : Type 0 where
-  pub taken : Consumes s.left s.left_after text
-  pub none_left : IsAtEnd s.left_after
-  pub seen : s.end_is_seen ≡ true
+  pub taken : Consumes s.input.left s.input_after.left text
+  pub none_left : IsAtEnd s.input_after.left
+  pub seen : s.input_after.end_is_seen ≡ true
   pub short : length text ≤ 262144
 
 -- The bytes are the lines of the list of all symmetry operations, or of those that do not reverse time: of the part behind
@@ -150,15 +148,15 @@ pub record Answers (ws : List (List ℕ)) (s : Streams) (kept : Kept) (report : 
 pub record WritesReport (ws : List (List ℕ)) (s : Streams) (kept : Kept) : Type 0 where
   pub report : List ℕ
   pub answers : Answers ws s kept report
-  pub appended : Appends s.held s.held_after report
+  pub appended : Appends s.output.held s.output_after.held report
 
 -- so many first bytes of the report were appended, fewer than all, and the output failed
 pub record WritesPart (ws : List (List ℕ)) (s : Streams) (kept : Kept) (written : ℕ) : Type 0 where
   pub report : List ℕ
   pub answers : Answers ws s kept report
   pub fewer : written < length report
-  pub appended : Appends s.held s.held_after (take written report)
-  pub cause : Rose s.out_highest s.out_faults s.out_faults_after
+  pub appended : Appends s.output.held s.output_after.held (take written report)
+  pub cause : Rose s.out_highest s.output.faults s.output_after.faults
 
 -- the input was read to its end, and this line, counted from 1, is the first that breaks a rule of the cell file: this rule
 pub record BreaksRule (s : Streams) (line : ℕ) (fault : CellFault) : Type 0 where
@@ -169,17 +167,17 @@ pub record BreaksRule (s : Streams) (line : ℕ) (fault : CellFault) : Type 0 wh
 -- 262,145 bytes of the input were taken before an end or a fault
 pub record IsTooLong (s : Streams) : Type 0 where
   pub taken : List ℕ
-  pub consumed : Consumes s.left s.left_after taken
+  pub consumed : Consumes s.input.left s.input_after.left taken
   pub count : length taken ≡ 262145
-  pub unseen : s.end_is_seen ≡ false
+  pub unseen : s.input_after.end_is_seen ≡ false
 
 -- the input failed before its end was seen and before it was too long
 pub record FailsToRead (s : Streams) : Type 0 where
   pub taken : List ℕ
-  pub consumed : Consumes s.left s.left_after taken
+  pub consumed : Consumes s.input.left s.input_after.left taken
   pub few : length taken ≤ 262144
-  pub unseen : s.end_is_seen ≡ false
-  pub cause : Rose s.in_highest s.in_faults s.in_faults_after
+  pub unseen : s.input_after.end_is_seen ≡ false
+  pub cause : Rose s.in_highest s.input.faults s.input_after.faults
 
 -- the whole report is written
 abbrev pub IsDone : Status → Type 0

@@ -2,7 +2,7 @@ ghost use Rattle.std.specs.Prelude.{◌≡◌, ◌<◌, ◌≤◌};
 ghost use Rattle.magsym.specs.Statuses.{line_of};
 ghost use Rattle.magsym.specs.Telling.{Tells};
 ghost use Rattle.io_edge.specs.Reading.{TakesAtMost, StopsAtEnd};
-ghost use Rattle.magsym.specs.Outcomes.{Outcome, IsDone, IsRefusal, IsUsage};
+ghost use Rattle.magsym.specs.Outcomes.{streams, Outcome, IsDone, IsRefusal, IsUsage};
 ghost use Rattle.magsym.specs.Completeness.{IsAnswerable, IsDoneOrMemory};
 
 use crate::command::read_words;
@@ -27,13 +27,14 @@ fn answer<I: Source, O: Sink, L: Ledger>(
     out: &mut O,
     steps: &mut Steps<L>,
 ) -> Status
-    ensures outcome { Outcome words.now (record { left = I.left input.old; left_after = I.left input.new; in_faults = I.faults input.old; in_faults_after = I.faults input.new; in_highest = I.highest_count; end_is_seen = I.end_is_seen input.new; held = O.held out.old; held_after = O.held out.new; out_faults = O.faults out.old; out_faults_after = O.faults out.new; out_highest = O.highest_count }) result }
-    ensures taken { TakesAtMost 262145 (I.left input.old) (I.left input.new) }
-    ensures stops { StopsAtEnd (I.end_is_seen input.old) (I.read_past_end input.old) (I.read_past_end input.new) }
+    ensures outcome { Outcome words.now (streams I.highest_count (I.state input.old) (I.state input.new)
+        O.highest_count (O.state out.old) (O.state out.new)) result }
+    ensures taken { TakesAtMost 262145 (I.state input.old) (I.state input.new) }
+    ensures stops { StopsAtEnd (I.state input.old) (I.state input.new) }
     ensures input_untouched { IsUsage result → input.new ≡ input.old }
     ensures out_untouched { IsRefusal result → out.new ≡ out.old }
-    ensures in_later { I.faults input.old ≤ I.faults input.new }
-    ensures out_later { O.faults out.old ≤ O.faults out.new }
+    ensures in_later { (I.state input.old).faults ≤ (I.state input.new).faults }
+    ensures out_later { (O.state out.old).faults ≤ (O.state out.new).faults }
 {
     let command = match read_words(words) {
         Ok(command) => command,
@@ -72,17 +73,19 @@ pub fn run<I: Source, O: Sink, E: Sink, L: Ledger>(
     err: &mut E,
     steps: &mut Steps<L>,
 ) -> Status
-    ensures outcome { Outcome words.now (record { left = I.left input.old; left_after = I.left input.new; in_faults = I.faults input.old; in_faults_after = I.faults input.new; in_highest = I.highest_count; end_is_seen = I.end_is_seen input.new; held = O.held out.old; held_after = O.held out.new; out_faults = O.faults out.old; out_faults_after = O.faults out.new; out_highest = O.highest_count }) result }
-    ensures complete { IsAnswerable words.now (record { left = I.left input.old; left_after = I.left input.new; in_faults = I.faults input.old; in_faults_after = I.faults input.new; in_highest = I.highest_count; end_is_seen = I.end_is_seen input.new; held = O.held out.old; held_after = O.held out.new; out_faults = O.faults out.old; out_faults_after = O.faults out.new; out_highest = O.highest_count }) → IsDoneOrMemory result }
-    ensures told { Tells E.highest_count (E.held err.old) (E.held err.new) (E.faults err.old) (E.faults err.new) (E.last_failed err.new) (line_of result) }
+    ensures outcome { Outcome words.now (streams I.highest_count (I.state input.old) (I.state input.new)
+        O.highest_count (O.state out.old) (O.state out.new)) result }
+    ensures complete { IsAnswerable words.now (streams I.highest_count (I.state input.old) (I.state input.new)
+        O.highest_count (O.state out.old) (O.state out.new)) → IsDoneOrMemory result }
+    ensures told { Tells E.highest_count (E.state err.old) (E.state err.new) (line_of result) }
     ensures err_untouched { IsDone result → err.new ≡ err.old }
-    ensures taken { TakesAtMost 262145 (I.left input.old) (I.left input.new) }
-    ensures stops { StopsAtEnd (I.end_is_seen input.old) (I.read_past_end input.old) (I.read_past_end input.new) }
+    ensures taken { TakesAtMost 262145 (I.state input.old) (I.state input.new) }
+    ensures stops { StopsAtEnd (I.state input.old) (I.state input.new) }
     ensures input_untouched { IsUsage result → input.new ≡ input.old }
     ensures out_untouched { IsRefusal result → out.new ≡ out.old }
-    ensures in_later { I.faults input.old ≤ I.faults input.new }
-    ensures out_later { O.faults out.old ≤ O.faults out.new }
-    ensures err_later { E.faults err.old ≤ E.faults err.new }
+    ensures in_later { (I.state input.old).faults ≤ (I.state input.new).faults }
+    ensures out_later { (O.state out.old).faults ≤ (O.state out.new).faults }
+    ensures err_later { (E.state err.old).faults ≤ (E.state err.new).faults }
 {
     let status = answer(alloc, words, input, out, steps);
     tell(err, &status);
@@ -101,17 +104,19 @@ pub(crate) fn run_counted<L: Ledger, I: Source, O: Sink, E: Sink>(
     requires name { blank.name ≡ L.name }
     requires parts { blank.parts ≡ L.parts }
     requires some { 0 < L.parts }
-    ensures outcome { Outcome words.now (record { left = I.left input.old; left_after = I.left input.new; in_faults = I.faults input.old; in_faults_after = I.faults input.new; in_highest = I.highest_count; end_is_seen = I.end_is_seen input.new; held = O.held out.old; held_after = O.held out.new; out_faults = O.faults out.old; out_faults_after = O.faults out.new; out_highest = O.highest_count }) result }
-    ensures complete { IsAnswerable words.now (record { left = I.left input.old; left_after = I.left input.new; in_faults = I.faults input.old; in_faults_after = I.faults input.new; in_highest = I.highest_count; end_is_seen = I.end_is_seen input.new; held = O.held out.old; held_after = O.held out.new; out_faults = O.faults out.old; out_faults_after = O.faults out.new; out_highest = O.highest_count }) → IsDoneOrMemory result }
-    ensures told { Tells E.highest_count (E.held err.old) (E.held err.new) (E.faults err.old) (E.faults err.new) (E.last_failed err.new) (line_of result) }
+    ensures outcome { Outcome words.now (streams I.highest_count (I.state input.old) (I.state input.new)
+        O.highest_count (O.state out.old) (O.state out.new)) result }
+    ensures complete { IsAnswerable words.now (streams I.highest_count (I.state input.old) (I.state input.new)
+        O.highest_count (O.state out.old) (O.state out.new)) → IsDoneOrMemory result }
+    ensures told { Tells E.highest_count (E.state err.old) (E.state err.new) (line_of result) }
     ensures err_untouched { IsDone result → err.new ≡ err.old }
-    ensures taken { TakesAtMost 262145 (I.left input.old) (I.left input.new) }
-    ensures stops { StopsAtEnd (I.end_is_seen input.old) (I.read_past_end input.old) (I.read_past_end input.new) }
+    ensures taken { TakesAtMost 262145 (I.state input.old) (I.state input.new) }
+    ensures stops { StopsAtEnd (I.state input.old) (I.state input.new) }
     ensures input_untouched { IsUsage result → input.new ≡ input.old }
     ensures out_untouched { IsRefusal result → out.new ≡ out.old }
-    ensures in_later { I.faults input.old ≤ I.faults input.new }
-    ensures out_later { O.faults out.old ≤ O.faults out.new }
-    ensures err_later { E.faults err.old ≤ E.faults err.new }
+    ensures in_later { (I.state input.old).faults ≤ (I.state input.new).faults }
+    ensures out_later { (O.state out.old).faults ≤ (O.state out.new).faults }
+    ensures err_later { (E.state err.old).faults ≤ (E.state err.new).faults }
 {
     let mut steps = Steps::<L>::new(blank);
     run(alloc, words, input, out, err, &mut steps)

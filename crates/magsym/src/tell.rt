@@ -14,8 +14,8 @@ use itoa::Buffer;
 
 /// Writes the pieces of a line, one after another. A failed write leaves out the rest of the line.
 fn tell_pieces<E: Sink>(err: &mut E, pieces: &[&[u8]])
-    ensures told { Tells E.highest_count (E.held err.old) (E.held err.new) (E.faults err.old) (E.faults err.new) (E.last_failed err.new) (concat (map (λ piece. piece.now) pieces.now)) }
-    ensures later { E.faults err.old ≤ E.faults err.new }
+    ensures told { Tells E.highest_count (E.state err.old) (E.state err.new) (concat (map (λ piece. piece.now) pieces.now)) }
+    ensures later { (E.state err.old).faults ≤ (E.state err.new).faults }
 {
     if let [piece, rest @ ..] = pieces {
         if write_whole(err, piece).is_ok() {
@@ -27,8 +27,8 @@ fn tell_pieces<E: Sink>(err: &mut E, pieces: &[&[u8]])
 /// Writes that a line of the cell file breaks a rule, and the text on the rule.
 fn tell_at<E: Sink>(err: &mut E, line: u32, fault: &CellFault, text: &[u8])
     requires { text.now ≡ fault_line fault.now }
-    ensures told { Tells E.highest_count (E.held err.old) (E.held err.new) (E.faults err.old) (E.faults err.new) (E.last_failed err.new) (line_of (CellRefused line fault.now)) }
-    ensures later { E.faults err.old ≤ E.faults err.new }
+    ensures told { Tells E.highest_count (E.state err.old) (E.state err.new) (line_of (CellRefused line fault.now)) }
+    ensures later { (E.state err.old).faults ≤ (E.state err.new).faults }
 {
     let mut number = Buffer::new();
     let line = number.format(line).as_bytes();
@@ -37,8 +37,8 @@ fn tell_at<E: Sink>(err: &mut E, line: u32, fault: &CellFault, text: &[u8])
 
 /// Writes that a line of the cell file gives an atom at the position of another.
 fn tell_same_place<E: Sink>(err: &mut E, line: u32, first: u32, second: u32)
-    ensures told { Tells E.highest_count (E.held err.old) (E.held err.new) (E.faults err.old) (E.faults err.new) (E.last_failed err.new) (line_of (CellRefused line (SamePlace first second))) }
-    ensures later { E.faults err.old ≤ E.faults err.new }
+    ensures told { Tells E.highest_count (E.state err.old) (E.state err.new) (line_of (CellRefused line (SamePlace first second))) }
+    ensures later { (E.state err.old).faults ≤ (E.state err.new).faults }
 {
     let (mut number, mut one, mut other) = (Buffer::new(), Buffer::new(), Buffer::new());
     let line = number.format(line).as_bytes();
@@ -61,8 +61,8 @@ fn tell_same_place<E: Sink>(err: &mut E, line: u32, first: u32, second: u32)
 
 /// Writes the line on a cell that is refused.
 fn tell_refused<E: Sink>(err: &mut E, line: u32, fault: &CellFault)
-    ensures told { Tells E.highest_count (E.held err.old) (E.held err.new) (E.faults err.old) (E.faults err.new) (E.last_failed err.new) (line_of (CellRefused line fault.now)) }
-    ensures later { E.faults err.old ≤ E.faults err.new }
+    ensures told { Tells E.highest_count (E.state err.old) (E.state err.new) (line_of (CellRefused line fault.now)) }
+    ensures later { (E.state err.old).faults ≤ (E.state err.new).faults }
 {
     match fault {
         CellFault::NotMagcell => tell_at(err, line, fault, b"not a magcell 1 file\n"),
@@ -92,9 +92,9 @@ fn tell_refused<E: Sink>(err: &mut E, line: u32, fault: &CellFault)
 
 /// Writes the line of a status: nothing after a whole report. A failed write leaves out the rest of the line.
 pub(crate) fn tell<E: Sink>(err: &mut E, status: &Status)
-    ensures told { Tells E.highest_count (E.held err.old) (E.held err.new) (E.faults err.old) (E.faults err.new) (E.last_failed err.new) (line_of status.now) }
+    ensures told { Tells E.highest_count (E.state err.old) (E.state err.new) (line_of status.now) }
     ensures untouched { IsDone status.now → err.new ≡ err.old }
-    ensures later { E.faults err.old ≤ E.faults err.new }
+    ensures later { (E.state err.old).faults ≤ (E.state err.new).faults }
 {
     let line: &[u8] = match status {
         Status::CellRefused(line, fault) => return tell_refused(err, *line, fault),

@@ -6,7 +6,7 @@ use Rattle.io_edge.proofs.sink.write_whole.Goals as goal
 pub loop-at-preserved : goal.loop-at-preserved
 loop-at-preserved g c =
     let rest = rest_of c.args.bytes.now c.loop-at.at in
-    let piece = subst (λ (zs : List ℕ). Appends (g.K.Sink.held c.loop-at.sink) (g.K.Sink.held c.write.new.self) (take c.in-Ok.count zs)) rest c.in-Ok.ensures.written in
+    let piece = subst (λ (zs : List ℕ). Appends (g.K.Sink.state c.loop-at.sink).held (g.K.Sink.state c.write.new.self).held (take c.in-Ok.count zs)) rest c.in-Ok.ensures.written in
     let some = c.in-Ok.ensures.some in
     record {
       out = then_appended _ _ _ c.args.bytes.now c.loop-at.at c.in-Ok.count c.loop-at.invariant.out piece;

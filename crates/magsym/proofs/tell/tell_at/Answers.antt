@@ -9,7 +9,7 @@ returns-clause-told g c =
     let magsym : List ℕ = c.as_slice.result.now in
     let line : List ℕ = c.as_bytes-line.result.now in
     let is_line : line ≡ decimal c.args.line = c.as_bytes-line.ensures.value ∙ c.format.ensures.text in
-    let Told : List ℕ → Type 0 = λ line. Tells g.E.Sink.highest_count (g.E.Sink.held c.args.err.now) (g.E.Sink.held c.tell_pieces.new.err) (g.E.Sink.faults c.args.err.now) (g.E.Sink.faults c.tell_pieces.new.err) (g.E.Sink.last_failed c.tell_pieces.new.err) line in
+    let Told : List ℕ → Type 0 = λ line. Tells g.E.Sink.highest_count (g.E.Sink.state c.args.err.now) (g.E.Sink.state c.tell_pieces.new.err) line in
     subst (λ (a : List ℕ). Told (a ++ decimal c.args.line ++ codes ": " ++ fault_line c.args.fault.now)) c.as_slice.ensures
     (subst (λ (b : List ℕ). Told (magsym ++ b ++ codes ": " ++ fault_line c.args.fault.now)) is_line
     (subst (λ (d : List ℕ). Told (magsym ++ line ++ codes ": " ++ d)) c.requires

@@ -12,7 +12,7 @@ returns-clause-told g c =
     let is_line : line ≡ decimal c.args.line = c.as_bytes-line.ensures.value ∙ c.format.ensures.text in
     let is_first : first ≡ decimal c.args.first = c.as_bytes-first.ensures.value ∙ c.format-2.ensures.text in
     let is_second : second ≡ decimal c.args.second = c.as_bytes-second.ensures.value ∙ c.format-3.ensures.text in
-    let Told : List ℕ → Type 0 = λ line. Tells g.E.Sink.highest_count (g.E.Sink.held c.args.err.now) (g.E.Sink.held c.tell_pieces.new.err) (g.E.Sink.faults c.args.err.now) (g.E.Sink.faults c.tell_pieces.new.err) (g.E.Sink.last_failed c.tell_pieces.new.err) line in
+    let Told : List ℕ → Type 0 = λ line. Tells g.E.Sink.highest_count (g.E.Sink.state c.args.err.now) (g.E.Sink.state c.tell_pieces.new.err) line in
     let pieces = eight_pieces magsym line (codes ": ") (codes "atoms ") first (codes " and ") second (codes " stand at one place\n") in
     subst (λ (a : List ℕ). Told (a ++ decimal c.args.line ++ codes ": " ++ (codes "atoms " ++ decimal c.args.first ++ codes " and " ++ decimal c.args.second ++ codes " stand at one place\n"))) c.as_slice.ensures
     (subst (λ (b : List ℕ). Told (magsym ++ b ++ codes ": " ++ (codes "atoms " ++ decimal c.args.first ++ codes " and " ++ decimal c.args.second ++ codes " stand at one place\n"))) is_line
