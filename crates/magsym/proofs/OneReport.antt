@@ -25,7 +25,7 @@ use Rattle.mag_type.proofs.AllOperations.{group_of_all, primitive_of_all}
 use Rattle.mag_ops.specs.Groups.{ListsGroup}
 use Rattle.site_orbits.specs.Orbits.{IsInOrbit, IsFirstAlike, CountsOrbit}
 use Rattle.site_orbits.specs.Entries.{AtomOrbit, IsOrbitOf, HaveOrbits}
-use Rattle.report_text.specs.Pages.{page_text}
+use Rattle.operation_text.specs.Pages.{page_text}
 use Rattle.report_text.specs.PrimitiveText.{cell_in_basis_text}
 use Rattle.report_text.specs.DatasetText.{dataset_text}
 use Rattle.report_text.specs.OrbitText.{orbit_text}

@@ -30,7 +30,7 @@ use Rattle.mag_type.specs.Families.{IsInFamily, IsUnprimed, IsNumberOf}
 use Rattle.mag_type.specs.MagneticTypes.{IsMagneticType}
 use Rattle.mag_ops.specs.Groups.{ListsGroup}
 use Rattle.site_orbits.specs.Entries.{AtomOrbit, HaveOrbits}
-use Rattle.report_text.specs.Pages.{page_text}
+use Rattle.operation_text.specs.Pages.{page_text}
 use Rattle.report_text.specs.PrimitiveText.{cell_in_basis_text}
 use Rattle.report_text.specs.DatasetText.{dataset_text}
 use Rattle.report_text.specs.OrbitText.{orbit_text}

@@ -6,7 +6,8 @@ use Rattle.crystal_spec.specs.Matrices.{Matrix}
 use Rattle.crystal_spec.specs.Crystals.{Structure}
 use Rattle.prim_cell.specs.Primitives.{PrimitiveCell}
 use Rattle.cell_print.specs.CellFileText.{cell_lines_text}
-use Rattle.report_text.specs.PrimitiveText.{entries_text, cell_in_basis_text}
+use Rattle.operation_text.specs.EntryText.{entries_text}
+use Rattle.report_text.specs.PrimitiveText.{cell_in_basis_text}
 
 pieces : (a b d h e l s : List ℕ) → ((a ++ ((b ++ d) ++ s)) ++ ((h ++ e) ++ s)) ++ l ≡ (((((a ++ b) ++ d) ++ (s ++ h)) ++ e) ++ s) ++ l
 pieces a b d h e l s = simp append_assoc

@@ -21,8 +21,8 @@ use Rattle.cell_print.specs.CellFileText.{scalar_products}
 use Rattle.serde_json.specs.Data.{Data, number, unsigned, string, array, object, Items, member, no_members}
 use Rattle.serde_json.specs.View.{items_of}
 use Rattle.serde_json.specs.Written.{compact_text}
-use Rattle.report_text.specs.OperationText.{parts_text}
-use Rattle.report_text.specs.PrimitiveText.{entries_text}
+use Rattle.operation_text.specs.EntryText.{entries_text}
+use Rattle.operation_text.specs.OperationText.{parts_text}
 
 -- the entries row by row, with no space before the first
 abbrev pub entries_words : Matrix → List ℕ

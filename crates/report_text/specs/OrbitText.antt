@@ -13,7 +13,7 @@ use Rattle.std.specs.Fmt.{decimal}
 use Rattle.crystal_spec.specs.Crystals.{Site}
 use Rattle.op_group.specs.Lists.{OperationList}
 use Rattle.site_orbits.specs.Entries.{AtomOrbit}
-use Rattle.report_text.specs.OperationText.{operations_text}
+use Rattle.operation_text.specs.OperationText.{operations_text}
 
 -- words, and a number in decimal
 abbrev pub counted_text : List ℕ → ℕ → List ℕ

@@ -4,8 +4,6 @@ ghost use Rattle.op_group.specs.Views.{operation_of};
 ghost use Rattle.serde_json.specs.View.{view, items_view};
 ghost use Rattle.report_text.specs.DatasetText.{entries_words, metric_words, operation_data, operation_items, orbit_data, orbit_items, site_data, site_items, AreFirstsBelow, dataset, dataset_text};
 
-use crate::operations::push_parts;
-use crate::primitives::push_entries;
 use cell_print::push_products;
 use crystal::Cell;
 use exact_num::Int;
@@ -13,6 +11,7 @@ use io_edge::Bytes;
 use mag_type::Kind;
 use matrix3::Mat3;
 use op_group::{Op, OpList};
+use operation_text::{push_entries, push_parts};
 use prim_cell::Primitive;
 use serde_json::{Map, Value, put};
 use site_orbits::Orbits;

@@ -2,11 +2,11 @@
 ghost use Rattle.std.specs.Prelude.{◌≡◌, ◌++◌, ◌+◌, ◌<◌, length, slice_get, IfOk, OnOk, IfSome};
 ghost use Rattle.report_text.specs.OrbitText.{counted_text, atom_text, atom_lines, orbit_lines_of, orbit_part, orbit_lines, orbit_text};
 
-use crate::operations::ops_report;
 use cell_print::push_name;
 use crystal::{Cell, Name};
 use io_edge::Bytes;
 use op_group::OpList;
+use operation_text::ops_report;
 use plain_text::push_decimal;
 use site_orbits::Orbits;
 use std::alloc::{AllocError, Global};

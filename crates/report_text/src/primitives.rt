@@ -1,11 +1,13 @@
 // The text of a primitive cell.
 ghost use Rattle.std.specs.Prelude.{◌≡◌, ◌++◌, decimal, codes, IfOk, OnOk};
-ghost use Rattle.report_text.specs.PrimitiveText.{integers_text, entries_text, cell_in_basis_text};
+ghost use Rattle.operation_text.specs.EntryText.{entries_text};
+ghost use Rattle.report_text.specs.PrimitiveText.{cell_in_basis_text};
 
 use cell_print::push_cell;
 use exact_num::Int;
 use io_edge::Bytes;
 use matrix3::Mat3;
+use operation_text::push_entries;
 use prim_cell::Primitive;
 use std::alloc::{AllocError, Global};
 
@@ -18,41 +20,6 @@ fn push_index(alloc: Global, out: &mut Bytes, index: u32) -> Result<(), AllocErr
     out.append(digits.as_bytes())?;
     out.push(b'\n')?;
     Ok(())
-}
-
-/// Adds integers in decimal, a space before each.
-fn push_integers(alloc: Global, out: &mut Bytes, integers: &[i128]) -> Result<(), AllocError>
-    ensures { OnOk result (out.new ≡ out.old ++ integers_text integers.now) }
-{
-    for integer in integers {
-        let digits = integer.to_string(alloc)?;
-        out.push(b' ')?;
-        out.append(digits.as_bytes())?;
-    }
-    Ok(())
-}
-
-/// Adds the entries of a matrix row by row, a space before each.
-pub(crate) fn push_entries(
-    alloc: Global,
-    out: &mut Bytes,
-    matrix: &Mat3<Int>,
-) -> Result<(), AllocError>
-    ensures { OnOk result (out.new ≡ out.old ++ entries_text matrix.now) }
-{
-    let q = *matrix;
-    let entries = [
-        q.a11.get(),
-        q.a12.get(),
-        q.a13.get(),
-        q.a21.get(),
-        q.a22.get(),
-        q.a23.get(),
-        q.a31.get(),
-        q.a32.get(),
-        q.a33.get(),
-    ];
-    push_integers(alloc, out, &entries)
 }
 
 /// Adds Q as a comment.

@@ -1,6 +1,6 @@
 use Rattle.std.proofs.Common.{◌≡◌, sym, ap, ◌∙◌}
 use Rattle.crystal_spec.specs.Crystals.{Structure}
-use Rattle.report_text.specs.Pages.{page_text}
+use Rattle.operation_text.specs.Pages.{page_text}
 use Rattle.magsym.proofs.Listed.{group_carried}
 use Rattle.magsym.proofs.report.symmetry_report.Goals as goal
 

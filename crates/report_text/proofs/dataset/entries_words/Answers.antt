@@ -1,7 +1,7 @@
 use Rattle.std.proofs.Common.{◌≡◌, ◌++◌, ap, ◌∙◌, subst, sym, List, ℕ}
 use Rattle.std.specs.Prelude.{IsAscii}
-use Rattle.report_text.specs.PrimitiveText.{entries_text}
-use Rattle.report_text.proofs.PlainTexts.{ascii_entries}
+use Rattle.operation_text.specs.EntryText.{entries_text}
+use Rattle.operation_text.proofs.PlainTexts.{ascii_entries}
 use Rattle.report_text.proofs.dataset.entries_words.Goals as goal
 
 pub words_behind_space-requires-clause-ascii : goal.words_behind_space-requires-clause-ascii

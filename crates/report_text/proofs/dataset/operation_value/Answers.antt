@@ -3,8 +3,8 @@ use Rattle.std.specs.Prelude.{IsAscii}
 use Rattle.std.proofs.lemmas.Str.{IsUtf8-from_ascii}
 use Rattle.op_group.specs.Views.{operation_of}
 use Rattle.serde_json.specs.Data.{string}
-use Rattle.report_text.specs.OperationText.{parts_text}
-use Rattle.report_text.proofs.PlainTexts.{ascii_parts}
+use Rattle.operation_text.specs.OperationText.{parts_text}
+use Rattle.operation_text.proofs.PlainTexts.{ascii_parts}
 use Rattle.report_text.proofs.dataset.operation_value.Goals as goal
 
 pub returns : goal.returns

@@ -1,6 +1,6 @@
-use Rattle.report_text.specs.OperationText.{parts_text}
-use Rattle.report_text.proofs.LineLemmas.{parts_from_pieces}
-use Rattle.report_text.proofs.operations.push_parts.Goals as goal
+use Rattle.operation_text.specs.OperationText.{parts_text}
+use Rattle.operation_text.proofs.LineLemmas.{parts_from_pieces}
+use Rattle.operation_text.proofs.operations.push_parts.Goals as goal
 
 pub returns : goal.returns
 unfolding parts_text

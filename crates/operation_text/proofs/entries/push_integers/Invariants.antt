@@ -1,6 +1,6 @@
 use Rattle.std.proofs.Common.{◌≡◌, ◌++◌, drop}
-use Rattle.report_text.specs.PrimitiveText.{integers_text}
-use Rattle.report_text.proofs.primitives.push_integers.Given as goal
+use Rattle.operation_text.specs.EntryText.{integers_text}
+use Rattle.operation_text.proofs.entries.push_integers.Given as goal
 
 -- the integers so far, and those that are left
 abbrev pub invariant-loop-integer : goal.invariant-loop-integer

@@ -5,8 +5,8 @@ use Rattle.std.proofs.Math.Seq.{take-add}
 use Rattle.std.specs.declared.option.Option.{Option}
 use Rattle.std.specs.declared.option.Option.TheVariants.{Some, None}
 use Rattle.crystal_spec.specs.Operations.{Operation}
-use Rattle.report_text.specs.OperationText.{operation_text, lines_text}
-use Rattle.report_text.specs.Pages.{page, PagesResume}
+use Rattle.operation_text.specs.OperationText.{operation_text, lines_text}
+use Rattle.operation_text.specs.Pages.{page, PagesResume}
 
 -- a page of the images is the image of the page
 pub page-map : {X Y : Type 0} (f : X → Y) (skip : ℕ) (most : Option ℕ) (xs : List X) → map f (page skip most xs) ≡ page skip most (map f xs)

@@ -1,6 +1,6 @@
 use Rattle.std.proofs.Common.{rules, ◌≡◌, ◌++◌, ◌∙◌, ap, append_assoc, List, ℕ}
-use Rattle.report_text.specs.OperationText.{terms_text, fraction_text}
-use Rattle.report_text.proofs.operations.push_row.Goals as goal
+use Rattle.operation_text.specs.OperationText.{terms_text, fraction_text}
+use Rattle.operation_text.proofs.operations.push_row.Goals as goal
 
 pub returns : goal.returns
 returns c =

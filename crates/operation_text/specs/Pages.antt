@@ -7,7 +7,7 @@ use Rattle.std.specs.Prelude.{◌≡◌, ℕ, ◌+◌, List, ◌++◌, take, dro
 use Rattle.std.specs.declared.option.Option.{Option}
 use Rattle.std.specs.declared.option.Option.TheVariants.{Some, None}
 use Rattle.op_group.specs.Lists.{OperationList}
-use Rattle.report_text.specs.OperationText.{lines_text, operations_text}
+use Rattle.operation_text.specs.OperationText.{lines_text, operations_text}
 
 -- the elements behind the first `skip`, and of these at most `most` where that is given
 abbrev pub page : {X : Type 0} → ℕ → Option ℕ → List X → List X

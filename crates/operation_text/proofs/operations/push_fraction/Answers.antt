@@ -1,6 +1,6 @@
 use Rattle.std.proofs.Common.{ap, arith, nat_abs}
 use Rattle.numbers.proofs.GcdLemmas.{gcd-swap, gcd-positive}
-use Rattle.report_text.proofs.operations.push_fraction.Goals as goal
+use Rattle.operation_text.proofs.operations.push_fraction.Goals as goal
 
 -- a translation that is not 0 has a positive common divisor with n
 pub nonzero_div-t : goal.nonzero_div-t

@@ -1,7 +1,7 @@
 // Pages of a list of operations, and the law that they go on where others end.
 
 ghost use Rattle.std.specs.Prelude.{◌≡◌, take, drop};
-ghost use Rattle.report_text.specs.Pages.{page, PagesResume, PageIsWhole};
+ghost use Rattle.operation_text.specs.Pages.{page, PagesResume, PageIsWhole};
 
 use op_group::Op;
 

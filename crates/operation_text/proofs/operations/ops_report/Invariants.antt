@@ -1,7 +1,7 @@
 use Rattle.std.proofs.Common.{◌≡◌, ◌++◌, drop, map}
 use Rattle.op_group.specs.Views.{operation_of}
-use Rattle.report_text.specs.OperationText.{lines_text}
-use Rattle.report_text.proofs.operations.ops_report.Given as goal
+use Rattle.operation_text.specs.OperationText.{lines_text}
+use Rattle.operation_text.proofs.operations.ops_report.Given as goal
 
 -- the lines so far, and those of the operations that are left
 abbrev pub invariant-loop-op : goal.invariant-loop-op

@@ -1,8 +1,8 @@
 // The lines of symmetry operations.
 ghost use Rattle.std.specs.Prelude.{◌≡◌, ◌++◌, ◌∷◌, [], pos, OnOk, IfOk};
 ghost use Rattle.op_group.specs.Views.{operation_of};
-ghost use Rattle.report_text.specs.OperationText.{plus_text, term_text, terms_text, fraction_text, row_text, sign_text, parts_text, operation_text};
-ghost use Rattle.report_text.specs.Pages.{page_text};
+ghost use Rattle.operation_text.specs.OperationText.{plus_text, term_text, terms_text, fraction_text, row_text, sign_text, parts_text, operation_text};
+ghost use Rattle.operation_text.specs.Pages.{page_text};
 
 use crate::pages::page;
 use crystal_spec::Sign;
@@ -101,8 +101,9 @@ fn push_sign(out: &mut Bytes, sign: Sign) -> Result<(), AllocError>
     }
 }
 
-/// Adds the four parts of an operation, joined by commas.
-pub(crate) fn push_parts(alloc: Global, out: &mut Bytes, n: u32, op: &Op) -> Result<(), AllocError>
+/// Adds the four parts of an operation, joined by commas, with the translation part in units of 1/n. Refuses for want of
+/// memory alone.
+pub fn push_parts(alloc: Global, out: &mut Bytes, n: u32, op: &Op) -> Result<(), AllocError>
     ensures { OnOk result (out.new ≡ out.old ++ parts_text n (operation_of op.now)) }
 {
     let w = op.w;

@@ -1,10 +1,10 @@
 use Rattle.std.proofs.Common.{◌≡◌, sym, ap, ◌∙◌, ◌++◌, length, ◌≤◌, map, append-nil, rules}
 use Rattle.std.proofs.lemmas.List.{drop_all}
 use Rattle.op_group.specs.Views.{operation_of}
-use Rattle.report_text.specs.OperationText.{lines_text}
-use Rattle.report_text.specs.Pages.{page}
-use Rattle.report_text.proofs.PageLemmas.{page-map}
-use Rattle.report_text.proofs.operations.ops_report.Goals as goal
+use Rattle.operation_text.specs.OperationText.{lines_text}
+use Rattle.operation_text.specs.Pages.{page}
+use Rattle.operation_text.proofs.PageLemmas.{page-map}
+use Rattle.operation_text.proofs.operations.ops_report.Goals as goal
 
 pub returns : goal.returns
 returns c =

@@ -1,0 +1,4 @@
+mod KnownValues
+mod LineLemmas
+mod PageLemmas
+pub mod PlainTexts

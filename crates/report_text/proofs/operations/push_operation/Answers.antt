@@ -1,5 +1,0 @@
-use Rattle.report_text.proofs.LineLemmas.{line_from_pieces}
-use Rattle.report_text.proofs.operations.push_operation.Goals as goal
-
-pub returns : goal.returns
-returns c = line_from_pieces c.args.out.now _ _ _ c.in_ok-push_parts.ensures c.in_ok-push.ensures.value
