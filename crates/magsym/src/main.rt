@@ -1,24 +1,16 @@
 //! The program magsym: exact magnetic symmetry of crystals.
 //!
-//! `run` does what the words of the command line ask, over any source of bytes and any sinks; its contract says which
-//! report comes for which input, and when each refusal comes. `main` makes the real objects, calls `run` and ends with
-//! the number of its status.
+//! `main` makes the real input, output and error stream, calls `run` of magsym_run over them and the words of the command
+//! line, and ends with the number of its status.
 #![tactic(auto)]
 
-mod command;
-mod options;
-mod report;
-mod run;
-mod status;
-mod tell;
 #[cfg(test)]
 mod tests;
-mod words;
 
-use crate::run::run_counted;
-use crate::status::Status;
-use crate::words::Words;
+use command_words::Words;
 use io_edge::{Bytes, StdSink, StdSource};
+use magsym_run::run_counted;
+use status_lines::Status;
 use std::alloc::AllocError;
 use std::marker::Brand;
 use std::process::ExitCode;

@@ -20,11 +20,7 @@ fn push_integers(alloc: Global, out: &mut Bytes, integers: &[i128]) -> Result<()
 }
 
 /// Adds the entries of a matrix row by row, a space before each. Refuses for want of memory alone.
-pub fn push_entries(
-    alloc: Global,
-    out: &mut Bytes,
-    matrix: &Mat3<Int>,
-) -> Result<(), AllocError>
+pub fn push_entries(alloc: Global, out: &mut Bytes, matrix: &Mat3<Int>) -> Result<(), AllocError>
     ensures { OnOk result (out.new ≡ out.old ++ entries_text matrix.now) }
 {
     let q = *matrix;

@@ -1,8 +1,8 @@
 // Inputs and outputs that fail.
 use super::Ends::{ReadFails, TellFails, WriteFails};
 use super::{CUBIC, Row, first_wrong, status_of};
-use crate::status::{Kept, Status};
 use cell_text::CellFault;
+use status_lines::{Kept, Status};
 
 /// The first or the second call fails.
 #[rattlefmt::skip]

@@ -12,10 +12,10 @@ mod primitive;
 mod symmetry;
 mod usage;
 
-use crate::run::run_counted;
-use crate::status::Status;
-use crate::words::Words;
+use command_words::Words;
 use io_edge::{Bytes, MemSink, MemSource};
+use magsym_run::run_counted;
+use status_lines::Status;
 use std::alloc::{AllocError, Global};
 use std::marker::Brand;
 use std::sync::ledger::Blank;

@@ -3,7 +3,7 @@ use super::Ends::{Parts, Whole, WriteFails};
 use super::{
     BODY_CENTRED, CHAIN, DOUBLED, EQUAL, NONMAGNETIC, OPPOSITE, Row, first_wrong, status_of,
 };
-use crate::status::{Kept, Status};
+use status_lines::{Kept, Status};
 use std::alloc::Global;
 
 /// Primitive cells along the axes, and one whose output fails.

@@ -67,8 +67,8 @@ const COUNTS: &[Row] = &[
         Parts(32, b"-x,-y,-z,+1\n", b"", b"x,y,z,-1\n")),
 ];
 
-/// Cells that break a rule. What line tells each rule is pinned in `proofs/KnownValues.antt`, and which texts break which in
-/// that of cell_text.
+/// Cells that break a rule. What line tells each rule is pinned in `proofs/KnownValues.antt` of status_lines, and which texts
+/// break which in that of cell_text.
 #[rattlefmt::skip]
 const REFUSED: &[Row] = &[
     Row("symmetry", b"magcell 1\nmetric 1 1 1 0 0 0\natom A 0 0 0 0 0 1\natom B 1 0 0 0 0 1\nend\n",

@@ -1,4 +1,5 @@
-// Words that ask for nothing. What words ask for, and what line tells each fault, is pinned in `proofs/KnownValues.antt`.
+// Words that ask for nothing. What words ask for, and what line tells each fault, is pinned in `proofs/KnownValues.antt` of
+// command_words and of status_lines.
 use super::Ends::Refused;
 use super::{CUBIC, Row, asked, first_wrong, opened, ran};
 use io_edge::{Bytes, MemSource, read_to_end};

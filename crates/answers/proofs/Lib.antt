@@ -1,0 +1,4 @@
+pub mod FoundLemmas
+pub mod Listed
+pub mod OneReport
+pub mod SpelledSizes

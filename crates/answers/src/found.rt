@@ -1,0 +1,52 @@
+// What is found of a cell before its report: its primitive cell, and the symmetry operations there.
+
+ghost use Rattle.std.specs.Prelude.{◌≡◌, Bool, IfOk};
+ghost use Rattle.status_lines.specs.declared.status.Kept.TheVariants.{Back};
+ghost use Rattle.answers.specs.Findings.{IsReducedPrimitive, IsFound};
+ghost use Rattle.answers.specs.Spelled.{IsSpelled};
+
+use crystal::{Cell, Steps};
+use mag_ops::full_group;
+use op_group::OpList;
+use prim_cell::{Primitive, primitive};
+use status_lines::Kept;
+use std::alloc::{AllocError, Global};
+use std::sync::ledger::Ledger;
+
+/// A primitive cell, and the list of its symmetry operations.
+#[derive(Drop)]
+pub(crate) struct Found {
+    pub made: Primitive,
+    pub group: OpList,
+}
+
+/// The basis of a primitive cell, which its report speaks of.
+pub(crate) fn kept(made: &Primitive) -> Kept
+    ensures { result ≡ Back made.now.back }
+{
+    Kept::Back(*made.back())
+}
+
+/// The primitive cell of a cell that was read.
+pub(crate) fn made_of(alloc: Global, cell: &Cell) -> Result<Primitive, AllocError>
+    requires { IsSpelled cell.now }
+    ensures { IfOk result (λ made. IsReducedPrimitive cell.now made) }
+{
+    let _form = cell.count();
+    primitive(alloc, cell)
+}
+
+/// The primitive cell of a cell that was read, and its symmetry operations: those that reverse time only where `time` is set.
+pub(crate) fn found_of<L: Ledger>(
+    alloc: Global,
+    cell: &Cell,
+    time: bool,
+    steps: &mut Steps<L>,
+) -> Result<Found, AllocError>
+    requires { IsSpelled cell.now }
+    ensures { IfOk result (λ found. IsFound cell.now time found.made found.group) }
+{
+    let made = made_of(alloc, cell)?;
+    let group = full_group(alloc, &made, time, steps)?;
+    Ok(Found { made, group })
+}

@@ -1,0 +1,97 @@
+-- What some words ask for.
+use Rattle.std.proofs.Common.{◌≡◌, ◌∷◌, [], refl}
+use Rattle.std.specs.Prelude.{codes, true, false, Some, None}
+use Rattle.std.specs.declared.result.Result.TheVariants.{Ok, Err}
+use Rattle.command_words.specs.declared.command.Command.TheVariants.{Symmetry, Primitive, Dataset, Orbits}
+use Rattle.command_words.specs.declared.command.UsageFault.TheVariants.{NoCommand, UnknownCommand, UnknownOption, RepeatedOption, MissingValue, BadValue, ExtraWord}
+use Rattle.command_words.specs.Commands.{command}
+
+-- ---- words that ask for a command
+
+name_alone : command (codes "symmetry" ∷ []) ≡ Ok (Symmetry true 0 None)
+name_alone = refl
+
+without_time_reversal : command (codes "symmetry" ∷ codes "--no-time-reversal" ∷ []) ≡ Ok (Symmetry false 0 None)
+without_time_reversal = refl
+
+page : command (codes "symmetry" ∷ codes "--skip" ∷ codes "90" ∷ codes "--take" ∷ codes "10" ∷ []) ≡ Ok (Symmetry true 90 (Some 10))
+page = refl
+
+leading_zeros : command (codes "symmetry" ∷ codes "--take" ∷ codes "000000002" ∷ []) ≡ Ok (Symmetry true 0 (Some 2))
+leading_zeros = refl
+
+all_options : command (codes "symmetry" ∷ codes "--take" ∷ codes "2" ∷ codes "--no-time-reversal" ∷ codes "--skip" ∷ codes "5" ∷ []) ≡ Ok (Symmetry false 5 (Some 2))
+all_options = refl
+
+largest_value : command (codes "symmetry" ∷ codes "--skip" ∷ codes "999999999" ∷ []) ≡ Ok (Symmetry true 999999999 None)
+largest_value = refl
+
+primitive_alone : command (codes "primitive" ∷ []) ≡ Ok Primitive
+primitive_alone = refl
+
+dataset_alone : command (codes "dataset" ∷ []) ≡ Ok Dataset
+dataset_alone = refl
+
+orbits_alone : command (codes "orbits" ∷ []) ≡ Ok Orbits
+orbits_alone = refl
+
+-- ---- words that ask for nothing
+
+no_word : command [] ≡ Err NoCommand
+no_word = refl
+
+another_name : command (codes "help" ∷ []) ≡ Err UnknownCommand
+another_name = refl
+
+value_after_equals : command (codes "symmetry" ∷ codes "--skip=1" ∷ []) ≡ Err UnknownOption
+value_after_equals = refl
+
+name_as_option : command (codes "symmetry" ∷ codes "primitive" ∷ []) ≡ Err UnknownOption
+name_as_option = refl
+
+time_twice : command (codes "symmetry" ∷ codes "--no-time-reversal" ∷ codes "--no-time-reversal" ∷ []) ≡ Err RepeatedOption
+time_twice = refl
+
+-- a repeated option is told before its missing value
+skip_twice : command (codes "symmetry" ∷ codes "--skip" ∷ codes "1" ∷ codes "--skip" ∷ []) ≡ Err RepeatedOption
+skip_twice = refl
+
+take_twice : command (codes "symmetry" ∷ codes "--take" ∷ codes "1" ∷ codes "--skip" ∷ codes "2" ∷ codes "--take" ∷ codes "1" ∷ []) ≡ Err RepeatedOption
+take_twice = refl
+
+no_value_of_skip : command (codes "symmetry" ∷ codes "--skip" ∷ []) ≡ Err MissingValue
+no_value_of_skip = refl
+
+no_value_of_take : command (codes "symmetry" ∷ codes "--skip" ∷ codes "1" ∷ codes "--take" ∷ []) ≡ Err MissingValue
+no_value_of_take = refl
+
+letter : command (codes "symmetry" ∷ codes "--take" ∷ codes "x" ∷ []) ≡ Err BadValue
+letter = refl
+
+option_as_value : command (codes "symmetry" ∷ codes "--skip" ∷ codes "--skip" ∷ []) ≡ Err BadValue
+option_as_value = refl
+
+empty_value : command (codes "symmetry" ∷ codes "--skip" ∷ codes "" ∷ []) ≡ Err BadValue
+empty_value = refl
+
+plus_sign : command (codes "symmetry" ∷ codes "--skip" ∷ codes "+1" ∷ []) ≡ Err BadValue
+plus_sign = refl
+
+ten_digits : command (codes "symmetry" ∷ codes "--skip" ∷ codes "1234567890" ∷ []) ≡ Err BadValue
+ten_digits = refl
+
+-- the first fault from the left is told
+bad_value_first : command (codes "symmetry" ∷ codes "--skip" ∷ codes "x" ∷ codes "--foo" ∷ []) ≡ Err BadValue
+bad_value_first = refl
+
+word_after_primitive : command (codes "primitive" ∷ codes "x" ∷ []) ≡ Err ExtraWord
+word_after_primitive = refl
+
+option_after_primitive : command (codes "primitive" ∷ codes "--skip" ∷ codes "1" ∷ []) ≡ Err ExtraWord
+option_after_primitive = refl
+
+word_after_dataset : command (codes "dataset" ∷ codes "x" ∷ []) ≡ Err ExtraWord
+word_after_dataset = refl
+
+option_after_orbits : command (codes "orbits" ∷ codes "--skip" ∷ codes "1" ∷ []) ≡ Err ExtraWord
+option_after_orbits = refl

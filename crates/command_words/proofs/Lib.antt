@@ -1,0 +1,3 @@
+mod KnownValues
+pub mod OptionLemmas
+pub mod OptionOrder

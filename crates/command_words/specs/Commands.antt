@@ -1,0 +1,94 @@
+-- What the words of the command line ask for.
+--   count_of word        the value of 1 to 9 digits
+--   Options              the options that were read so far, and what the next word has to be
+--   with_word o word     with one more word, or its fault
+--   asked o              what the options ask for, where no word is left
+--   options o words      what the options ask for with all these words more, or the first fault from the left
+--   alone c words        the command c, behind whose name no word may stand
+--   command words        the command, or the first fault from the left
+-- The word behind `--skip` or `--take` is its value, whatever it is. An option that was given before is told as such also
+-- where it has no value.
+use Rattle.std.specs.Prelude.{ℕ, Bool, true, false, List, [], ◌∷◌, nat_eq, if◌then◌else◌, codes}
+use Rattle.std.specs.Cmp.Lexicographic.{pointwise}
+use Rattle.std.specs.declared.option.Option.TheVariants.{Some, None}
+use Rattle.std.specs.declared.result.Result.{Result}
+use Rattle.std.specs.declared.result.Result.TheVariants.{Ok, Err}
+use Rattle.plain_text.specs.Digits.{is_count, value_of_digits}
+use Rattle.command_words.specs.declared.options.Awaited.TheVariants.{AnyOption, ValueOfSkip, ValueOfTake}
+use Rattle.command_words.specs.declared.options.Options.{Options}
+use Rattle.command_words.specs.declared.command.Command.{Command}
+use Rattle.command_words.specs.declared.command.Command.TheVariants.{Symmetry, Primitive, Dataset, Orbits}
+use Rattle.command_words.specs.declared.command.UsageFault.{UsageFault}
+use Rattle.command_words.specs.declared.command.UsageFault.TheVariants.{NoCommand, UnknownCommand, UnknownOption, RepeatedOption, MissingValue, BadValue, ExtraWord}
+
+-- the two words have the same bytes
+abbrev pub same_word : List ℕ → List ℕ → Bool
+same_word v w = pointwise nat_eq v w
+
+-- the value of 1 to 9 digits
+abbrev pub count_of : List ℕ → Result ℕ UsageFault
+count_of word = if is_count word then Ok (value_of_digits word) else Err BadValue
+
+-- no option was read
+abbrev pub no_options : Options
+no_options = record { time = true; skip = None; take = None; awaited = AnyOption }
+
+-- `--no-time-reversal`
+abbrev pub without_time : Options → Result Options UsageFault
+without_time o = if o.time then Ok (record { time = false; skip = o.skip; take = o.take; awaited = AnyOption }) else Err RepeatedOption
+
+-- `--skip`, whose value is the next word
+abbrev pub awaiting_skip : Options → Result Options UsageFault
+awaiting_skip o = elim o.skip [ None ↦ Ok (record { time = o.time; skip = None; take = o.take; awaited = ValueOfSkip }) | Some count ↦ Err RepeatedOption ]
+
+-- `--take`, whose value is the next word
+abbrev pub awaiting_take : Options → Result Options UsageFault
+awaiting_take o = elim o.take [ None ↦ Ok (record { time = o.time; skip = o.skip; take = None; awaited = ValueOfTake }) | Some count ↦ Err RepeatedOption ]
+
+-- a word in the place of an option
+abbrev pub with_option : Options → List ℕ → Result Options UsageFault
+with_option o word =
+    if same_word word (codes "--no-time-reversal") then without_time o
+    else if same_word word (codes "--skip") then awaiting_skip o
+    else if same_word word (codes "--take") then awaiting_take o
+    else Err UnknownOption
+
+-- the value of `--skip`
+abbrev pub with_skip : Options → List ℕ → Result Options UsageFault
+with_skip o word = elim (count_of word) [ Ok count ↦ Ok (record { time = o.time; skip = Some count; take = o.take; awaited = AnyOption }) | Err fault ↦ Err fault ]
+
+-- the value of `--take`
+abbrev pub with_take : Options → List ℕ → Result Options UsageFault
+with_take o word = elim (count_of word) [ Ok count ↦ Ok (record { time = o.time; skip = o.skip; take = Some count; awaited = AnyOption }) | Err fault ↦ Err fault ]
+
+-- one more word: an option, or the value of the option before it
+abbrev pub with_word : Options → List ℕ → Result Options UsageFault
+with_word o word = elim o.awaited [ AnyOption ↦ with_option o word | ValueOfSkip ↦ with_skip o word | ValueOfTake ↦ with_take o word ]
+
+-- all operations with time reversal, none left out and none too many, unless an option says otherwise
+abbrev pub command_of : Options → Command
+command_of o = Symmetry o.time (elim o.skip [ None ↦ 0 | Some count ↦ count ]) o.take
+
+-- where no word is left, no value may be wanting
+abbrev pub asked : Options → Result Command UsageFault
+asked o = elim o.awaited [ AnyOption ↦ Ok (command_of o) | ValueOfSkip ↦ Err MissingValue | ValueOfTake ↦ Err MissingValue ]
+
+-- word by word from the left
+abbrev pub options : Options → List (List ℕ) → Result Command UsageFault
+options o [] = asked o
+options o (word ∷ later) = elim (with_word o word) [ Ok read ↦ options read later | Err fault ↦ Err fault ]
+
+-- no word is left
+abbrev pub alone : Command → List (List ℕ) → Result Command UsageFault
+alone c [] = Ok c
+alone c (word ∷ later) = Err ExtraWord
+
+-- the first word is the name
+abbrev pub command : List (List ℕ) → Result Command UsageFault
+command [] = Err NoCommand
+command (name ∷ later) =
+    if same_word name (codes "symmetry") then options no_options later
+    else if same_word name (codes "primitive") then alone Primitive later
+    else if same_word name (codes "dataset") then alone Dataset later
+    else if same_word name (codes "orbits") then alone Orbits later
+    else Err UnknownCommand

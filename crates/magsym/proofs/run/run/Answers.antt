@@ -1,5 +1,0 @@
-use Rattle.magsym.proofs.Complete.{complete_of_outcome}
-use Rattle.magsym.proofs.run.run.Goals as goal
-
-pub returns-clause-complete : goal.returns-clause-complete
-returns-clause-complete g c = complete_of_outcome c.args.words.now _ c.answer-status.result c.answer-status.ensures.outcome

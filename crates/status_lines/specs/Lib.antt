@@ -1,0 +1,3 @@
+pub mod StatusKinds
+pub mod Statuses
+pub mod Telling
