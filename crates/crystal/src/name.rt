@@ -84,8 +84,15 @@ impl Name {
         self.bytes[i]
     }
 
+    /// The bytes of the name.
+    pub fn as_bytes(&self) -> &[u8]
+        ensures { result.now ≡ self.now }
+    {
+        &self.bytes[..self.count]
+    }
+
     /// The same name again.
-    pub(crate) fn copied(&self) -> Name
+    pub fn copied(&self) -> Name
         ensures { result ≡ self.now }
     {
         Name {
