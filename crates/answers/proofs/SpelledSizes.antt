@@ -1,6 +1,6 @@
 -- The sizes of a cell that a cell file spells. No line breaks a rule, so behind each line the metric tensors that were given
 -- have scales and entries up to 10^9, and the moments have sizes up to 10^9 in units of 1/k.
-use Rattle.std.proofs.Common.{◌≡◌, ℕ, ◌^◌, ◌≤◌, Bool, true, false, List, [], ◌∷◌, ◌++◌, map, get_or, None, inl, inr, refl, sym, ap, subst, ◌∙◌, arith, append-nil}
+use Rattle.std.proofs.Common.{◌≡◌, ℕ, ◌^◌, ◌≤◌, Bool, true, List, [], ◌∷◌, ◌++◌, map, get_or, None, inl, inr, refl, sym, subst, arith}
 use Rattle.std.specs.Prelude.{pos, nat_le}
 use Rattle.std.specs.List.{list_all}
 use Rattle.std.proofs.lemmas.Bool.{leb-true, and_parts}
@@ -12,13 +12,13 @@ use Rattle.crystal.specs.Bounds.{EntriesAtMost, CoordinatesAtMost}
 use Rattle.plain_text.specs.Text.{lines}
 use Rattle.numbers.specs.Fraction.{Fraction}
 use Rattle.plain_text.specs.NumberWords.{common_denominator, scaled}
-use Rattle.cell_text.specs.Lines.{is_metric_line, is_atom_line}
-use Rattle.cell_text.specs.Entries.{AtomLine, ScaledMetric, Contents, atom_of, metric_of, metric_values, scale_of_line, scaled_at, contents, moments, is_billion, is_metric_in_range, are_moments_in_range, one_if}
-use Rattle.cell_text.specs.Rules.{later_fault, cell_fault}
-use Rattle.cell_text.specs.Views.{with_line}
+use Rattle.cell_text.specs.Lines.{Entry, skipped, metric_entry, atom_entry, end_entry, other_entry}
+use Rattle.cell_text.specs.Entries.{AtomLine, ScaledMetric, Contents, values, number_at, metric_of, with_entry, state_after, contents, moments, is_billion, is_metric_in_range, are_moments_in_range}
+use Rattle.cell_text.specs.Rules.{entry_fault, cell_fault}
 use Rattle.cell_text.specs.CellFile.{Spells, cell_with, names_of, site_of, no_metric}
 use Rattle.cell_text.proofs.PassedLines.{metric_fits, moments_fit, text_holds}
-use Rattle.cell_text.proofs.MetricLines.{at_most, six}
+use Rattle.cell_text.proofs.Judging.{IsEntry}
+use Rattle.cell_text.proofs.MetricLines.{at_most, number_billion}
 use Rattle.prim_cell.specs.Sizes.{HasSizesOfRead}
 
 -- ---- what the contents are
@@ -36,19 +36,13 @@ record HoldsSmall (held : Contents) : Type 0 where
   pub metrics : AreSmallMetrics held.metrics
   pub moments : are_moments_in_range held.atoms ≡ true
 
-metric_small : (line : List ℕ) → is_metric_in_range line ≡ true → IsSmallMetric (metric_of line)
+metric_small : (fs : List Fraction) → is_metric_in_range fs ≡ true → IsSmallMetric (metric_of fs)
 unfolding is_metric_in_range
-metric_small line e =
-    let d = scale_of_line line in
-    let p = and_parts (nat_le d 1000000000) (list_all (λ (f : Fraction). is_billion (scaled d f)) (metric_values line)) e in
-    let s = six (is_billion (scaled_at line 1)) (is_billion (scaled_at line 2)) (is_billion (scaled_at line 3)) (is_billion (scaled_at line 4)) (is_billion (scaled_at line 5)) (is_billion (scaled_at line 6)) p.1 in
-    let aa = at_most (scaled_at line 1) s.aa in
-    let bb = at_most (scaled_at line 2) s.bb in
-    let cc_ = at_most (scaled_at line 3) s.c in
-    let bc = at_most (scaled_at line 4) s.bc in
-    let ac = at_most (scaled_at line 5) s.ac in
-    let ab = at_most (scaled_at line 6) s.ab in
-    (leb-true d 1000000000 p.0, record { a11 = aa; a12 = ab; a13 = ac; a21 = ab; a22 = bb; a23 = bc; a31 = ac; a32 = bc; a33 = cc_ })
+metric_small fs e =
+    let d = common_denominator fs in
+    let p = and_parts (nat_le d 1000000000) (list_all (λ (f : Fraction). is_billion (scaled d f)) fs) e in
+    let at : (i : ℕ) → AtMost 1000000000 (scaled d (number_at fs i)) = λ i. at_most (scaled d (number_at fs i)) (number_billion d fs i p.1) in
+    (leb-true d 1000000000 p.0, record { a11 = at 0; a12 = at 5; a13 = at 4; a21 = at 5; a22 = at 1; a23 = at 3; a31 = at 4; a32 = at 3; a33 = at 2 })
 
 metrics-append : (ms : List ScaledMetric) (m : ScaledMetric) → AreSmallMetrics ms → IsSmallMetric m → AreSmallMetrics (ms ++ m ∷ [])
 metrics-append [] m small one = (one, tt)
@@ -56,24 +50,20 @@ metrics-append (x ∷ ms) m small one = (small.0, metrics-append ms m small.1 on
 
 -- ---- a line that breaks no rule
 
-metrics_with : (ms : List ScaledMetric) (line : List ℕ) (b : Bool) → AreSmallMetrics ms → (b ≡ true → is_metric_in_range line ≡ true) → AreSmallMetrics (ms ++ one_if b (metric_of line))
-metrics_with ms line true small fits = metrics-append ms (metric_of line) small (metric_small line (fits refl))
-metrics_with ms line false small fits = subst AreSmallMetrics (sym (append-nil ms)) small
-
-moments_with : (xs : List AtomLine) (line : List ℕ) (b : Bool) → are_moments_in_range xs ≡ true → (b ≡ true → are_moments_in_range (xs ++ atom_of line ∷ []) ≡ true) → are_moments_in_range (xs ++ one_if b (atom_of line)) ≡ true
-moments_with xs line true small fits = fits refl
-moments_with xs line false small fits = ap are_moments_in_range (append-nil xs) ∙ small
-
-later_small : (held : Contents) (line : List ℕ) → later_fault held line ≡ None → HoldsSmall held → HoldsSmall (with_line held line)
-later_small held line e small = record {
-  metrics = metrics_with held.metrics line (is_metric_line line) small.metrics (metric_fits held line e);
-  moments = moments_with held.atoms line (is_atom_line line) small.moments (moments_fit held line e);
+later_small : (held : Contents) (entry : Entry) → IsEntry entry → entry_fault held entry ≡ None → HoldsSmall held → HoldsSmall (with_entry held entry)
+later_small held skipped n e small = small
+later_small held (metric_entry ws) n e small = record {
+  metrics = metrics-append held.metrics (metric_of (values ws)) small.metrics (metric_small (values ws) (metric_fits held ws e));
+  moments = small.moments;
 }
+later_small held (atom_entry name ws) n e small = record { metrics = small.metrics; moments = moments_fit held name ws e }
+later_small held end_entry n e small = record { metrics = small.metrics; moments = small.moments }
+later_small held other_entry n e small = absurd cc
 
 -- ---- all lines
 
 nothing_small : HoldsSmall (contents [])
-unfolding contents are_moments_in_range moments
+unfolding state_after are_moments_in_range moments
 nothing_small = record { metrics = tt; moments = refl }
 
 text_small : (text : List ℕ) → cell_fault text ≡ None → HoldsSmall (contents (lines text))

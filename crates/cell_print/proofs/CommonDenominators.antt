@@ -14,7 +14,7 @@ use Rattle.std.proofs.Math.Nat.{div-mul_cancel, mul-div_cancel_left, dvd-mul_rig
 use Rattle.numbers.specs.Gcd.{gcd, lcm}
 use Rattle.numbers.proofs.GcdLemmas.{gcd_is, gcd-swap, lcm_least, lcm-multiple_left, lcm-multiple_right}
 use Rattle.numbers.specs.Fraction.{Fraction, fraction, lowest}
-use Rattle.plain_text.specs.NumberWords.{signed, denominator_of, scaled, common_denominator, number_value}
+use Rattle.plain_text.specs.NumberWords.{signed, denominator_of, scaled, common_denominator}
 use Rattle.plain_text.proofs.Multiples.{parts-positive}
 use Rattle.plain_text.proofs.Signs.{signed-mul}
 use Rattle.cell_print.specs.Printable.{divisor_with}
@@ -135,9 +135,9 @@ gcd-zero_left : (k : ℕ) → gcd 0 k ≡ k
 unfolding gcd
 gcd-zero_left k = gcd-swap 0 k ∙ refl
 
--- 0 in any unit is 0/1, as a word that is not there is
-pub reduced-zero : (k : ℕ) → 0 < k → reduced k (pos 0) ≡ number_value []
-unfolding number_value lowest gcd
+-- 0 in any unit is 0/1
+pub reduced-zero : (k : ℕ) → 0 < k → reduced k (pos 0) ≡ fraction (pos 0) (pos 1)
+unfolding lowest gcd
 reduced-zero k h = ap (λ (g : ℕ). made (0 / g) (k / g)) (gcd-zero_left k) ∙ ap (λ (n : ℕ). made n (k / k)) none ∙ ap (λ (n : ℕ). made 0 n) one
   where
     made : ℕ → ℕ → Fraction

@@ -1,5 +1,5 @@
 -- What the printed lines say: the metric tensor and the atoms of the cell.
-use Rattle.std.proofs.Common.{◌≡◌, ℕ, zero, suc, ◌^◌, ◌<◌, ◌≤◌, Bool, true, false, List, [], ◌∷◌, ◌++◌, length, map, get_or, drop, None, refl, sym, ap, ◌∙◌, arith}
+use Rattle.std.proofs.Common.{◌≡◌, ℕ, zero, suc, ◌^◌, ◌<◌, ◌≤◌, Bool, true, false, List, [], ◌∷◌, ◌++◌, length, map, None, refl, sym, ap, ◌∙◌, arith}
 use Rattle.std.specs.Prelude.{ℤ, pos, negsuc, ◌<ℤ◌, unsigned_abs, ◌&&◌, ◌||◌, ◌==◌, int_lt, nat_le, if◌then◌else◌}
 use Rattle.std.specs.List.{list_all}
 use Rattle.std.proofs.lemmas.Bool.{le-leb, lt-ltb, and_parts, and_from}
@@ -11,10 +11,9 @@ use Rattle.crystal.specs.Names.{is_name}
 use Rattle.numbers.specs.Fraction.{Fraction}
 use Rattle.plain_text.specs.NumberWords.{scaled, common_denominator, number_value}
 use Rattle.plain_text.specs.FirstFaults.{first_of}
-use Rattle.cell_text.specs.Lines.{word_fault, same_word, metric_word, atom_word, is_metric_line, is_atom_line}
-use Rattle.plain_text.specs.Text.{words}
-use Rattle.cell_text.specs.Entries.{AtomLine, ScaledMetric, atom_of, metric_of, symmetric, metric_values, is_billion, is_metric_in_range, is_positive}
-use Rattle.cell_text.specs.Readers.{scaled_tensor}
+use Rattle.cell_text.specs.declared.version.Version.TheVariants.{One}
+use Rattle.cell_text.specs.Lines.{word_fault, metric_entry, atom_entry, behind_atom, entry_of_words, entry_of}
+use Rattle.cell_text.specs.Entries.{AtomLine, ScaledMetric, values, number_at, atom_of, scaled_tensor, metric_of, symmetric, is_billion, is_metric_in_range, is_positive}
 use Rattle.cell_print.specs.CellFileText.{scalar_products, coordinates, is_zero, is_nothing}
 use Rattle.cell_print.specs.Printable.{divisor_with, AreAtMost}
 use Rattle.plain_text.specs.NumberText.{number_text}
@@ -53,16 +52,18 @@ pub record IsPlainMetric (c : Structure) : Type 0 where
   pub same : IsSymmetric c.metric
   pub positive : IsPositive c.metric
 
-metric_values-read : (c : Structure) → IsPlainMetric c → metric_values (metric_line c) ≡ map (reduced (unsigned_abs c.scale)) (scalar_products c.metric)
-metric_values-read c h =
-    ap (λ (ws : List (List ℕ)). number_value (get_or ws 1 []) ∷ number_value (get_or ws 2 []) ∷ number_value (get_or ws 3 []) ∷ number_value (get_or ws 4 []) ∷ number_value (get_or ws 5 []) ∷ number_value (get_or ws 6 []) ∷ []) (metric_line-words c (omega (arith, h.small_scale)) h.small)
-    ∙ number_texts-values (unsigned_abs c.scale) (scalar_products c.metric) h.some (omega (arith, h.small_scale)) h.small
+-- the number words of the metric line
+abbrev pub metric_words : Structure → List (List ℕ)
+metric_words c = number_texts (unsigned_abs c.scale) (scalar_products c.metric)
+
+metric_values-read : (c : Structure) → IsPlainMetric c → values (metric_words c) ≡ map (reduced (unsigned_abs c.scale)) (scalar_products c.metric)
+metric_values-read c h = number_texts-values (unsigned_abs c.scale) (scalar_products c.metric) h.some (omega (arith, h.small_scale)) h.small
 
 scale-read : (c : Structure) → IsPlainMetric c → common_denominator (map (reduced (unsigned_abs c.scale)) (scalar_products c.metric)) ≡ unsigned_abs c.scale
 scale-read c h = common_denominator-reduced (unsigned_abs c.scale) (scalar_products c.metric) h.some h.least
 
 -- The metric line says the metric tensor.
-pub metric_line-read : (c : Structure) → IsPlainMetric c → metric_of (metric_line c) ≡ metric_held c
+pub metric_line-read : (c : Structure) → IsPlainMetric c → metric_of (values (metric_words c)) ≡ metric_held c
 metric_line-read c h =
     let d = unsigned_abs c.scale in
     let g = c.metric in
@@ -86,7 +87,7 @@ billions d (z ∷ zs) some h =
     and_from (is_billion (scaled d (reduced d z))) _ (ap is_billion (scaled-reduced d z some) ∙ le-leb (unsigned_abs z) 1000000000 (omega (arith, h.0))) (billions d zs some h.1)
 
 -- It is within its limits.
-pub metric_line-in_range : (c : Structure) → IsPlainMetric c → is_metric_in_range (metric_line c) ≡ true
+pub metric_line-in_range : (c : Structure) → IsPlainMetric c → is_metric_in_range (values (metric_words c)) ≡ true
 unfolding is_metric_in_range
 metric_line-in_range c h =
     let d = unsigned_abs c.scale in
@@ -104,19 +105,17 @@ unfolding is_positive
 positive-test g h = and_from _ _ (and_from _ _ (above _ h.first) (above _ h.second)) (above _ h.third)
 
 -- Its metric tensor is positive.
-pub metric_line-positive : (c : Structure) → IsPlainMetric c → is_positive (metric_of (metric_line c)).entries ≡ true
+pub metric_line-positive : (c : Structure) → IsPlainMetric c → is_positive (metric_of (values (metric_words c))).entries ≡ true
 metric_line-positive c h = ap (λ (m : ScaledMetric). is_positive m.entries) (metric_line-read c h) ∙ positive-test c.metric h.positive
 
--- It has the form of a metric line.
-pub metric_line-is : (c : Structure) → IsPlainMetric c → is_metric_line (metric_line c) ≡ true
-unfolding is_metric_line
-metric_line-is c h = ap (λ (ws : List (List ℕ)). same_word (get_or ws 0 []) metric_word && length ws == 7) (metric_line-words c (omega (arith, h.small_scale)) h.small)
+-- It is a metric line.
+pub metric_line-is : (c : Structure) → IsPlainMetric c → entry_of One (metric_line c) ≡ metric_entry (metric_words c)
+unfolding entry_of
+metric_line-is c h = ap (entry_of_words One) (metric_line-words c (omega (arith, h.small_scale)) h.small)
 
 -- Its words are numbers.
-pub metric_line-no_fault : (c : Structure) → IsPlainMetric c → first_of (map word_fault (drop 1 (words (metric_line c)))) ≡ None
-metric_line-no_fault c h =
-    ap (λ (ws : List (List ℕ)). first_of (map word_fault (drop 1 ws))) (metric_line-words c (omega (arith, h.small_scale)) h.small)
-    ∙ number_texts-no_fault (unsigned_abs c.scale) (scalar_products c.metric) [] h.some (omega (arith, h.small_scale)) h.small refl
+pub metric_line-no_fault : (c : Structure) → IsPlainMetric c → first_of (map word_fault (metric_words c)) ≡ None
+metric_line-no_fault c h = number_texts-no_fault (unsigned_abs c.scale) (scalar_products c.metric) [] h.some (omega (arith, h.small_scale)) h.small refl
 
 -- ---- atom lines
 
@@ -139,19 +138,19 @@ pub record HasUnits (c : Structure) : Type 0 where
   pub small_n : c.n ≤ 10 ^ 6
   pub small_k : c.k ≤ 10 ^ 6
 
--- the values of a moment, at the words behind the position
-abbrev moment_values : List (List ℕ) → List Fraction
-moment_values ws = number_value (get_or ws 0 []) ∷ number_value (get_or ws 1 []) ∷ number_value (get_or ws 2 []) ∷ []
+-- the values of a moment
+abbrev moment_values : List Fraction → List Fraction
+moment_values fs = number_at fs 0 ∷ number_at fs 1 ∷ number_at fs 2 ∷ []
 
 zero_is : (z : ℤ) → is_zero z ≡ true → z ≡ pos 0
 zero_is (pos zero) e = refl
 zero_is (pos (suc n)) e = absurd cc
 zero_is (negsuc n) e = absurd cc
 
-moment_words-values : (k : ℕ) (m : Triple) → 0 < k → k < 10 ^ 18 → AreSmall (coordinates m) → moment_values (moment_words k m) ≡ map (reduced k) (coordinates m)
+moment_words-values : (k : ℕ) (m : Triple) → 0 < k → k < 10 ^ 18 → AreSmall (coordinates m) → moment_values (values (moment_words k m)) ≡ map (reduced k) (coordinates m)
 moment_words-values k m some h small = by (is_nothing m) refl
   where
-    by : (b : Bool) → is_nothing m ≡ b → moment_values (if b then [] else number_texts k (coordinates m)) ≡ map (reduced k) (coordinates m)
+    by : (b : Bool) → is_nothing m ≡ b → moment_values (values (if b then [] else number_texts k (coordinates m))) ≡ map (reduced k) (coordinates m)
     by true e =
         let p = and_parts (is_zero m.x && is_zero m.y) (is_zero m.z) e in
         let q = and_parts (is_zero m.x) (is_zero m.y) p.0 in
@@ -161,38 +160,42 @@ moment_words-values k m some h small = by (is_nothing m) refl
         λ i. x i ∷ y i ∷ z i ∷ []
     by false e = number_texts-values k (coordinates m) some h small
 
--- the atom that these words say
-abbrev said : List (List ℕ) → AtomLine
-said ws = record { name = get_or ws 1 []; x = number_value (get_or ws 2 []); y = number_value (get_or ws 3 []); z = number_value (get_or ws 4 []); ma = number_value (get_or ws 5 []); mb = number_value (get_or ws 6 []); mc = number_value (get_or ws 7 []) }
+-- the number words of an atom line
+abbrev pub atom_words : Structure → Site → List (List ℕ)
+atom_words c s = number_texts c.n (coordinates s.position) ++ moment_words c.k s.moment
 
 -- the atom of these values
 abbrev of_values : List ℕ → List Fraction → List Fraction → AtomLine
-of_values name ps ms = record { name = name; x = get_or ps 0 (number_value []); y = get_or ps 1 (number_value []); z = get_or ps 2 (number_value []); ma = get_or ms 0 (number_value []); mb = get_or ms 1 (number_value []); mc = get_or ms 2 (number_value []) }
+of_values name ps ms = record { name = name; x = number_at ps 0; y = number_at ps 1; z = number_at ps 2; ma = number_at ms 0; mb = number_at ms 1; mc = number_at ms 2 }
 
 -- An atom line says the atom.
-pub atom_line-read : (c : Structure) (s : Site) → HasUnits c → IsPlain c s → atom_of (atom_line c s) ≡ entry c s
+pub atom_line-read : (c : Structure) (s : Site) → HasUnits c → IsPlain c s → atom_of (name_of c s) (values (atom_words c s)) ≡ entry c s
 atom_line-read c s units plain =
-    ap said (atom_line-words c s (omega (arith, units.small_n)) (omega (arith, units.small_k)) plain)
-    ∙ ap (λ (ps : List Fraction). of_values (name_of c s) ps (moment_values (moment_words c.k s.moment))) (number_texts-values c.n (coordinates s.position) units.some_n (omega (arith, units.small_n)) plain.position)
+    ap (λ (ps : List Fraction). of_values (name_of c s) ps (moment_values (values (moment_words c.k s.moment)))) (number_texts-values c.n (coordinates s.position) units.some_n (omega (arith, units.small_n)) plain.position)
     ∙ ap (λ (ms : List Fraction). of_values (name_of c s) (map (reduced c.n) (coordinates s.position)) ms) (moment_words-values c.k s.moment units.some_k (omega (arith, units.small_k)) plain.moment)
 
 -- Its words behind the name are numbers.
-pub atom_line-no_fault : (c : Structure) (s : Site) → HasUnits c → IsPlain c s → first_of (map word_fault (drop 2 (words (atom_line c s)))) ≡ None
+pub atom_line-no_fault : (c : Structure) (s : Site) → HasUnits c → IsPlain c s → first_of (map word_fault (atom_words c s)) ≡ None
 atom_line-no_fault c s units plain =
-    ap (λ (ws : List (List ℕ)). first_of (map word_fault (drop 2 ws))) (atom_line-words c s (omega (arith, units.small_n)) (omega (arith, units.small_k)) plain)
-    ∙ number_texts-no_fault c.n (coordinates s.position) (moment_words c.k s.moment) units.some_n (omega (arith, units.small_n)) plain.position (by (is_nothing s.moment))
+    number_texts-no_fault c.n (coordinates s.position) (moment_words c.k s.moment) units.some_n (omega (arith, units.small_n)) plain.position (by (is_nothing s.moment))
   where
     by : (b : Bool) → first_of (map word_fault (if b then [] else number_texts c.k (coordinates s.moment))) ≡ None
     by true = refl
     by false = number_texts-no_fault c.k (coordinates s.moment) [] units.some_k (omega (arith, units.small_k)) plain.moment refl
 
-count_is : (c : Structure) (s : Site) (b : Bool) → (length (atom_word ∷ name_of c s ∷ (number_texts c.n (coordinates s.position) ++ (if b then [] else number_texts c.k (coordinates s.moment)))) == 5 || length (atom_word ∷ name_of c s ∷ (number_texts c.n (coordinates s.position) ++ (if b then [] else number_texts c.k (coordinates s.moment)))) == 8) ≡ true
+abbrev has_count : List (List ℕ) → Bool
+has_count ws = length ws == 3 || length ws == 6
+
+count_is : (c : Structure) (s : Site) (b : Bool) → has_count (number_texts c.n (coordinates s.position) ++ (if b then [] else number_texts c.k (coordinates s.moment))) ≡ true
 count_is c s true = refl
 count_is c s false = refl
 
--- It has the form of an atom line.
-pub atom_line-is : (c : Structure) (s : Site) → HasUnits c → IsPlain c s → is_atom_line (atom_line c s) ≡ true
-unfolding is_atom_line
+named : (name : List ℕ) (ws : List (List ℕ)) → is_name name ≡ true → has_count ws ≡ true → behind_atom (name ∷ ws) ≡ atom_entry name ws
+named name ws e f = rw (e, f) refl
+
+-- It is an atom line.
+pub atom_line-is : (c : Structure) (s : Site) → HasUnits c → IsPlain c s → entry_of One (atom_line c s) ≡ atom_entry (name_of c s) (atom_words c s)
+unfolding entry_of
 atom_line-is c s units plain =
-    ap (λ (ws : List (List ℕ)). same_word (get_or ws 0 []) atom_word && (length ws == 5 || length ws == 8) && is_name (get_or ws 1 [])) (atom_line-words c s (omega (arith, units.small_n)) (omega (arith, units.small_k)) plain)
-    ∙ and_from _ (is_name (name_of c s)) (count_is c s (is_nothing s.moment)) plain.name
+    ap (entry_of_words One) (atom_line-words c s (omega (arith, units.small_n)) (omega (arith, units.small_k)) plain)
+    ∙ named (name_of c s) (atom_words c s) plain.name (count_is c s (is_nothing s.moment))

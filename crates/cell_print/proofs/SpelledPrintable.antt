@@ -2,34 +2,34 @@
 --
 -- No line breaks a rule. So each number is in lowest terms, and scale, n and k, which are the least common denominators, are
 -- the least units; sizes are within the limits of the cell file, and names have the form of names.
-use Rattle.std.proofs.Common.{◌≡◌, ℕ, zero, suc, ◌^◌, ◌<◌, ◌≤◌, Bool, true, false, List, [], ◌∷◌, ◌++◌, length, map, get_or, drop, Option, Some, None, refl, sym, ap, subst, ◌∙◌, arith, append-nil, length-append}
-use Rattle.std.specs.Prelude.{ℤ, pos, ◌≤ℤ◌, ◌&&◌, ◌||◌, not, ◌==◌, nat_le, nat_lt, if◌then◌else◌, unsigned_abs}
+use Rattle.std.proofs.Common.{◌≡◌, ℕ, zero, suc, ◌^◌, ◌<◌, ◌≤◌, Bool, true, false, List, [], ◌∷◌, ◌++◌, length, map, get_or, Option, Some, None, refl, sym, ap, subst, ◌∙◌, arith, length-append}
+use Rattle.std.specs.Prelude.{ℤ, pos, ◌≤ℤ◌, ◌&&◌, ◌||◌, not, ◌==◌, nat_le, nat_lt, unsigned_abs}
 use Rattle.std.specs.Int.{◌∣◌}
 use Rattle.std.specs.List.{fold, list_all, list_any}
 use Rattle.std.proofs.lemmas.Bool.{leb-true, and_parts}
 use Rattle.std.proofs.lemmas.Int.{ints}
+use Rattle.std.proofs.lemmas.List.{length-map}
+use Rattle.numbers.specs.Gcd.{gcd}
 use Rattle.crystal_spec.specs.Crystals.{Structure}
 use Rattle.crystal.specs.Names.{is_name}
 use Rattle.crystal.specs.Numbering.{AreByFirstUse}
 use Rattle.cell_text.specs.declared.fault.CellFault.{CellFault}
-use Rattle.cell_text.specs.declared.fault.CellFault.TheVariants.{MetricMissing}
 use Rattle.plain_text.specs.declared.fault.NumberFault.{NumberFault}
 use Rattle.plain_text.specs.declared.fault.NumberFault.TheVariants.{BadNumber, NumberRange, ZeroDenominator}
-use Rattle.plain_text.specs.Text.{lines, words}
+use Rattle.plain_text.specs.Text.{lines}
 use Rattle.numbers.specs.Fraction.{Fraction}
-use Rattle.plain_text.specs.NumberWords.{common_denominator, scaled, numerator_part, denominator_part, number_fault}
+use Rattle.plain_text.specs.NumberWords.{common_denominator, scaled, numerator_part, denominator_part, number_fault, number_value}
 use Rattle.plain_text.specs.FirstFaults.{when, or_else, first_of}
 use Rattle.plain_text.specs.Digits.{is_digits, value_of_digits}
-use Rattle.cell_text.specs.Lines.{word_fault, same_word, word_at, value_at, is_metric_line, is_atom_line, is_end_line, number_words}
-use Rattle.cell_text.specs.Entries.{AtomLine, ScaledMetric, Contents, atom_of, metric_of, metric_values, scale_of_line, scaled_at, contents, positions, moments, is_billion, is_metric_in_range, are_moments_in_range, one_if}
-use Rattle.cell_text.specs.Rules.{later_fault}
-use Rattle.cell_text.specs.Views.{with_line}
+use Rattle.cell_text.specs.Lines.{word_fault, same_word, Entry, skipped, metric_entry, atom_entry, end_entry, other_entry}
+use Rattle.cell_text.specs.Entries.{AtomLine, ScaledMetric, Contents, values, nothing, number_at, atom_of, metric_of, with_entry, state_after, contents, positions, moments, is_billion, is_metric_in_range, are_moments_in_range}
+use Rattle.cell_text.specs.Rules.{metric_fault, atom_fault, entry_fault}
 use Rattle.cell_text.specs.CellFile.{Spells, cell_with, with_name, names_of, site_of, no_metric}
-use Rattle.cell_text.proofs.Judging.{metric-no_atom, atom_named}
-use Rattle.cell_text.proofs.MetricLines.{six}
+use Rattle.cell_text.proofs.Judging.{IsEntry}
+use Rattle.cell_text.proofs.MetricLines.{number_billion}
 use Rattle.cell_text.proofs.NameLemmas.{with-old, with-new, spelled_numbered}
 use Rattle.cell_text.proofs.WordFaults.{number_passes}
-use Rattle.cell_text.proofs.PassedLines.{later_faults, all_none, metric_fits, moments_fit, text_holds, text_ends}
+use Rattle.cell_text.proofs.PassedLines.{all_none, metric_numbers, metric_fits, atom_numbers, moments_fit, end_behind_metric, text_holds, text_ends}
 use Rattle.cell_print.specs.CellFileText.{scalar_products}
 use Rattle.cell_print.specs.Printable.{divisor_with, all_positions, all_moments, AreAtMost, IsPrintable}
 use Rattle.cell_print.proofs.CommonDenominators.{AllDivisible}
@@ -57,36 +57,22 @@ rest_none : (f r : Option CellFault) → or_else f r ≡ None → r ≡ None
 rest_none None r e = e
 rest_none (Some f) r e = absurd cc
 
--- a word that is not there is 0/1
-none_positive : 0 < value_of_digits (denominator_part [])
-none_positive = let one : value_of_digits (denominator_part []) ≡ 1 = refl in omega (arith, one)
+-- the numbers of words that break no rule are in lowest terms
+values_lowest : (ws : List (List ℕ)) → first_of (map word_fault ws) ≡ None → Each IsLowest (values ws)
+values_lowest [] e = tt
+values_lowest (w ∷ ws) e = (
+  value_lowest w (number_positive w (number_passes w (all_none (map word_fault (w ∷ ws)) 0 e))),
+  values_lowest ws (rest_none (word_fault w) (first_of (map word_fault ws)) e),
+)
 
-each_positive : (ws : List (List ℕ)) (i : ℕ) → first_of (map word_fault ws) ≡ None → 0 < value_of_digits (denominator_part (get_or ws i []))
-each_positive [] i e = none_positive
-each_positive (w ∷ ws) zero e = number_positive w (number_passes w (all_none (map word_fault (w ∷ ws)) 0 e))
-each_positive (w ∷ ws) (suc i) e = each_positive ws i (rest_none (word_fault w) (first_of (map word_fault ws)) e)
+nothing_lowest : IsLowest nothing
+unfolding gcd
+nothing_lowest = record { positive = omega arith; lowest = refl }
 
-behind_one : (ws : List (List ℕ)) (i : ℕ) → first_of (map word_fault (drop 1 ws)) ≡ None → 0 < value_of_digits (denominator_part (get_or ws (suc i) []))
-behind_one [] i e = none_positive
-behind_one (w ∷ ws) i e = each_positive ws i e
-
-behind_two : (ws : List (List ℕ)) (i : ℕ) → first_of (map word_fault (drop 2 ws)) ≡ None → 0 < value_of_digits (denominator_part (get_or ws (suc (suc i)) []))
-behind_two [] i e = none_positive
-behind_two (v ∷ []) i e = none_positive
-behind_two (v ∷ w ∷ ws) i e = each_positive ws i e
-
-metric_numbers : (held : Contents) (line : List ℕ) → later_fault held line ≡ None → is_metric_line line ≡ true → first_of (map word_fault (drop 1 (words line))) ≡ None
-unfolding later_fault number_words
-metric_numbers held line e h =
-    subst (λ (b : Bool). first_of (map word_fault (if b then drop 1 (words line) else if is_atom_line line then drop 2 (words line) else [])) ≡ None) h (all_none (later_faults held line) 5 e)
-
-atom_numbers : (held : Contents) (line : List ℕ) → later_fault held line ≡ None → is_atom_line line ≡ true → first_of (map word_fault (drop 2 (words line))) ≡ None
-unfolding later_fault number_words
-atom_numbers held line e h = by (is_metric_line line) refl (all_none (later_faults held line) 5 e)
-  where
-    by : (b : Bool) → is_metric_line line ≡ b → first_of (map word_fault (if b then drop 1 (words line) else if is_atom_line line then drop 2 (words line) else [])) ≡ None → first_of (map word_fault (drop 2 (words line))) ≡ None
-    by true m f = absurd (cc (metric-no_atom line m, h))
-    by false m f = subst (λ (b : Bool). first_of (map word_fault (if b then drop 2 (words line) else [])) ≡ None) h f
+number_lowest : (fs : List Fraction) (i : ℕ) → Each IsLowest fs → IsLowest (number_at fs i)
+number_lowest [] i l = nothing_lowest
+number_lowest (f ∷ fs) zero l = l.0
+number_lowest (f ∷ fs) (suc i) l = number_lowest fs i l.1
 
 -- ---- what the contents are
 
@@ -119,75 +105,59 @@ record HoldsPrintable (held : Contents) : Type 0 where
 
 -- ---- a line that breaks no rule
 
-metric_printable : (line : List ℕ) → is_metric_in_range line ≡ true → Each IsLowest (metric_values line) → IsPrintableMetric (metric_of line)
+-- six numbers are their scalar products
+least_six : (fs : List Fraction) → length fs ≡ 6 → divisor_with (common_denominator fs) (map (scaled (common_denominator fs)) fs) ≡ 1 → divisor_with (metric_of fs).scale (scalar_products (metric_of fs).entries) ≡ 1
+least_six (aa ∷ bb ∷ cc_ ∷ bc ∷ ac ∷ ab ∷ []) n e = e
+least_six fs n e = absurd (omega arith)
+
+metric_printable : (fs : List Fraction) → length fs ≡ 6 → is_metric_in_range fs ≡ true → Each IsLowest fs → IsPrintableMetric (metric_of fs)
 unfolding is_metric_in_range
-metric_printable line e l =
-    let d = scale_of_line line in
-    let p = and_parts (nat_le d 1000000000) (list_all (λ (f : Fraction). is_billion (scaled d f)) (metric_values line)) e in
-    let s = six (is_billion (scaled_at line 1)) (is_billion (scaled_at line 2)) (is_billion (scaled_at line 3)) (is_billion (scaled_at line 4)) (is_billion (scaled_at line 5)) (is_billion (scaled_at line 6)) p.1 in
-    let small : (z : ℤ) → is_billion z ≡ true → unsigned_abs z ≤ 10 ^ 9 = λ z h. leb-true (unsigned_abs z) 1000000000 h in
+metric_printable fs n e l =
+    let d = common_denominator fs in
+    let p = and_parts (nat_le d 1000000000) (list_all (λ (f : Fraction). is_billion (scaled d f)) fs) e in
+    let small : (i : ℕ) → unsigned_abs (scaled d (number_at fs i)) ≤ 10 ^ 9 = λ i. leb-true (unsigned_abs (scaled d (number_at fs i))) 1000000000 (number_billion d fs i p.1) in
     record {
       scale = leb-true d 1000000000 p.0;
-      least = least_numerators (metric_values line) l;
-      entries = (small (scaled_at line 1) s.aa, (small (scaled_at line 2) s.bb, (small (scaled_at line 3) s.c, (small (scaled_at line 4) s.bc, (small (scaled_at line 5) s.ac, (small (scaled_at line 6) s.ab, tt))))));
+      least = least_six fs n (least_numerators fs l);
+      entries = (small 0, (small 1, (small 2, (small 3, (small 4, (small 5, tt))))));
     }
 
-metric_here : (held : Contents) (line : List ℕ) → later_fault held line ≡ None → is_metric_line line ≡ true → IsPrintableMetric (metric_of line)
-metric_here held line e h =
-    let f = metric_numbers held line e h in
-    let at : (i : ℕ) → IsLowest (value_at line (suc i)) = λ i. value_lowest (word_at line (suc i)) (behind_one (words line) i f) in
-    metric_printable line (metric_fits held line e h) (at 0, (at 1, (at 2, (at 3, (at 4, (at 5, tt))))))
+metric_here : (held : Contents) (ws : List (List ℕ)) → length ws ≡ 6 → metric_fault held ws ≡ None → IsPrintableMetric (metric_of (values ws))
+metric_here held ws n e = metric_printable (values ws) (length-map ws number_value ∙ n) (metric_fits held ws e) (values_lowest ws (metric_numbers held ws e))
 
-atom_here : (held : Contents) (line : List ℕ) → later_fault held line ≡ None → is_atom_line line ≡ true → IsPrintableAtom (atom_of line)
-atom_here held line e h =
-    let f = atom_numbers held line e h in
-    let at : (i : ℕ) → IsLowest (value_at line (suc (suc i))) = λ i. value_lowest (word_at line (suc (suc i))) (behind_two (words line) i f) in
-    record { name = atom_named line h; position = (at 0, (at 1, (at 2, tt))); moment = (at 3, (at 4, (at 5, tt))) }
+atom_here : (held : Contents) (name : List ℕ) (ws : List (List ℕ)) → is_name name ≡ true → atom_fault held name ws ≡ None → IsPrintableAtom (atom_of name (values ws))
+atom_here held name ws n e =
+    let l = values_lowest ws (atom_numbers held name ws e) in
+    let at : (i : ℕ) → IsLowest (number_at (values ws) i) = λ i. number_lowest (values ws) i l in
+    record { name = n; position = (at 0, (at 1, (at 2, tt))); moment = (at 3, (at 4, (at 5, tt))) }
 
 metrics-append : (ms : List ScaledMetric) (m : ScaledMetric) → ArePrintableMetrics ms → IsPrintableMetric m → ArePrintableMetrics (ms ++ m ∷ [])
 metrics-append [] m h one = (one, tt)
 metrics-append (x ∷ ms) m h one = (h.0, metrics-append ms m h.1 one)
 
-metrics_with : (ms : List ScaledMetric) (line : List ℕ) (b : Bool) → ArePrintableMetrics ms → (b ≡ true → IsPrintableMetric (metric_of line)) → ArePrintableMetrics (ms ++ one_if b (metric_of line))
-metrics_with ms line true h here = metrics-append ms (metric_of line) h (here refl)
-metrics_with ms line false h here = subst ArePrintableMetrics (sym (append-nil ms)) h
-
 atoms-append : (xs : List AtomLine) (a : AtomLine) → ArePrintableAtoms xs → IsPrintableAtom a → ArePrintableAtoms (xs ++ a ∷ [])
 atoms-append [] a h one = (one, tt)
 atoms-append (x ∷ xs) a h one = (h.0, atoms-append xs a h.1 one)
 
-atoms_with : (xs : List AtomLine) (line : List ℕ) (b : Bool) → ArePrintableAtoms xs → (b ≡ true → IsPrintableAtom (atom_of line)) → ArePrintableAtoms (xs ++ one_if b (atom_of line))
-atoms_with xs line true h here = atoms-append xs (atom_of line) h (here refl)
-atoms_with xs line false h here = subst ArePrintableAtoms (sym (append-nil xs)) h
-
-moments_with : (xs : List AtomLine) (line : List ℕ) (b : Bool) → are_moments_in_range xs ≡ true → (b ≡ true → are_moments_in_range (xs ++ atom_of line ∷ []) ≡ true) → are_moments_in_range (xs ++ one_if b (atom_of line)) ≡ true
-moments_with xs line true h here = here refl
-moments_with xs line false h here = ap are_moments_in_range (append-nil xs) ∙ h
-
-some_with : (ended end : Bool) (ms more : List ScaledMetric) → (ended ≡ true → 0 < length ms) → (end ≡ true → 0 < length ms) → (ended || end) ≡ true → 0 < length (ms ++ more)
-some_with true end ms more h k e = let some = h refl in omega (arith, some, length-append ms more)
-some_with false true ms more h k e = let some = k refl in omega (arith, some, length-append ms more)
-some_with false false ms more h k e = absurd cc
-
-not_missing : (b : Bool) (n : ℕ) → when (b && n == 0) MetricMissing ≡ None → b ≡ true → 0 < n
-not_missing true zero e h = absurd cc
-not_missing true (suc n) e h = omega arith
-not_missing false n e h = absurd cc
-
-end_behind_metric : (held : Contents) (line : List ℕ) → later_fault held line ≡ None → is_end_line line ≡ true → 0 < length held.metrics
-unfolding later_fault
-end_behind_metric held line e h = not_missing (is_end_line line) (length held.metrics) (all_none (later_faults held line) 11 e) h
-
-later_printable : (held : Contents) (line : List ℕ) → later_fault held line ≡ None → HoldsPrintable held → HoldsPrintable (with_line held line)
-later_printable held line e h = record {
-  metrics = metrics_with held.metrics line (is_metric_line line) h.metrics (metric_here held line e);
-  some = some_with held.ended (is_end_line line) held.metrics (one_if (is_metric_line line) (metric_of line)) h.some (end_behind_metric held line e);
-  atoms = atoms_with held.atoms line (is_atom_line line) h.atoms (atom_here held line e);
-  moments = moments_with held.atoms line (is_atom_line line) h.moments (moments_fit held line e);
+later_printable : (held : Contents) (entry : Entry) → IsEntry entry → entry_fault held entry ≡ None → HoldsPrintable held → HoldsPrintable (with_entry held entry)
+later_printable held skipped n e h = h
+later_printable held (metric_entry ws) n e h = record {
+  metrics = metrics-append held.metrics (metric_of (values ws)) h.metrics (metric_here held ws n e);
+  some = λ ended. omega (arith, length-append held.metrics (metric_of (values ws) ∷ []));
+  atoms = h.atoms;
+  moments = h.moments;
 }
+later_printable held (atom_entry name ws) n e h = record {
+  metrics = h.metrics;
+  some = h.some;
+  atoms = atoms-append held.atoms (atom_of name (values ws)) h.atoms (atom_here held name ws n e);
+  moments = moments_fit held name ws e;
+}
+later_printable held end_entry n e h = record { metrics = h.metrics; some = λ ended. end_behind_metric held e; atoms = h.atoms; moments = h.moments }
+later_printable held other_entry n e h = absurd cc
 
 nothing_printable : HoldsPrintable (contents [])
-unfolding contents are_moments_in_range moments
+unfolding state_after are_moments_in_range moments
 nothing_printable = record { metrics = tt; some = λ e. absurd (cc e); atoms = tt; moments = refl }
 
 -- ---- the cell

@@ -13,9 +13,9 @@ use Rattle.std.proofs.Common.{Option, Some, None}
 use Rattle.cell_text.specs.declared.atom_line.AtomLine.{AtomLine as CodeAtom}
 use Rattle.cell_text.specs.declared.fault.CellFault.{CellFault}
 use Rattle.cell_text.specs.declared.fault.CellFault.TheVariants.{PositionRange, MomentRange}
-use Rattle.cell_text.specs.Views.{atom_view, atom_faults}
+use Rattle.cell_text.specs.Views.{atom_view}
 use Rattle.cell_text.specs.Entries.{AtomLine, Contents, moments, positions, is_billion, are_positions_in_range, are_moments_in_range}
-use Rattle.cell_text.specs.Rules.{same_place}
+use Rattle.cell_text.specs.Rules.{same_place, place_fault}
 use Rattle.plain_text.proofs.DigitLemmas.{fold-append}
 
 abbrev pub is_billion_by : ℕ → List Fraction → Bool
@@ -61,6 +61,10 @@ pub range_end : (k : ℕ) (xs : List CodeAtom) (i : ℕ) (total : Bool) → leng
 unfolding moments
 range_end k xs i total h e = rw (drop_all i xs h) at e
 
+-- no answer of a test is both
+pub not_both : {X : Type 0} (b : Bool) → b ≡ true → b ≡ false → X
+not_both b p q = absurd (cc (p, q))
+
 -- ---- the tests of the rules
 
 pub positions_fit : (xs : List AtomLine) (a : AtomLine) (n : ℕ) → n ≡ common_denominator (positions xs) → lcm (lcm (lcm n (denominator_of a.x)) (denominator_of a.y)) (denominator_of a.z) ≤ 1000000 → are_positions_in_range (xs ++ a ∷ []) ≡ true
@@ -83,15 +87,15 @@ moments_past xs a k e h =
     let past : nat_le (common_denominator (moments (xs ++ a ∷ []))) 1000000 ≡ false = rw (moments_more xs a, ← e) (lt-leb _ 1000000 h) in
     rw past refl
 
-pub faults-position : (held : Contents) (a : AtomLine) → are_positions_in_range (held.atoms ++ a ∷ []) ≡ false → atom_faults held a ≡ Some PositionRange
-unfolding atom_faults
+pub faults-position : (held : Contents) (a : AtomLine) → are_positions_in_range (held.atoms ++ a ∷ []) ≡ false → place_fault held a ≡ Some PositionRange
+unfolding place_fault
 faults-position held a e = rw e refl
 
-pub faults-moment : (held : Contents) (a : AtomLine) → are_positions_in_range (held.atoms ++ a ∷ []) ≡ true → are_moments_in_range (held.atoms ++ a ∷ []) ≡ false → atom_faults held a ≡ Some MomentRange
-unfolding atom_faults
+pub faults-moment : (held : Contents) (a : AtomLine) → are_positions_in_range (held.atoms ++ a ∷ []) ≡ true → are_moments_in_range (held.atoms ++ a ∷ []) ≡ false → place_fault held a ≡ Some MomentRange
+unfolding place_fault
 faults-moment held a e f = rw (e, f) refl
 
-pub faults-place : (held : Contents) (a : AtomLine) (fault : Option CellFault) → are_positions_in_range (held.atoms ++ a ∷ []) ≡ true → are_moments_in_range (held.atoms ++ a ∷ []) ≡ true → same_place held.atoms a ≡ fault → atom_faults held a ≡ fault
-unfolding atom_faults
+pub faults-place : (held : Contents) (a : AtomLine) (fault : Option CellFault) → are_positions_in_range (held.atoms ++ a ∷ []) ≡ true → are_moments_in_range (held.atoms ++ a ∷ []) ≡ true → same_place held.atoms a ≡ fault → place_fault held a ≡ fault
+unfolding place_fault
 faults-place held a None e f g = rw (e, f, g) refl
 faults-place held a (Some fault) e f g = rw (e, f, g) refl

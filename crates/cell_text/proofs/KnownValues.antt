@@ -1,5 +1,5 @@
 -- What texts spell, and why others are refused.
-use Rattle.std.specs.Prelude.{◌≡◌, ℕ, List, [], ◌∷◌, ◌++◌, Some, None, pos, negsuc, length, replicate, codes}
+use Rattle.std.specs.Prelude.{◌≡◌, ℕ, List, [], ◌∷◌, ◌++◌, map, Some, None, pos, negsuc, length, replicate, codes}
 use Rattle.std.specs.List.{flat_map}
 use Rattle.std.proofs.Common.{refl}
 use Rattle.numbers.specs.Gcd.{gcd, lcm}
@@ -9,10 +9,11 @@ use Rattle.crystal_spec.specs.Moments.{axial_vectors}
 use Rattle.cell_text.specs.declared.fault.CellFault.TheVariants.{NotMagcell, BadByte, BadLine, BadNumber, NumberRange, ZeroDenominator, MetricTwice, MetricMissing, MetricRange, NotPositive, PositionRange, MomentRange, TooManyAtoms, NoAtom, SamePlace, NoEnd, AfterEnd}
 use Rattle.crystal_spec.specs.Crystals.{Structure}
 use Rattle.plain_text.specs.Text.{lines, has_bad_byte}
-use Rattle.cell_text.specs.Lines.{word_fault, is_skipped, is_heading, is_metric_line, is_atom_line, is_end_line, number_words}
+use Rattle.cell_text.specs.declared.version.Version.TheVariants.{One}
+use Rattle.cell_text.specs.Lines.{skipped, metric_entry, atom_entry, end_entry, other_entry, word_fault, version_of, entry_of}
 use Rattle.plain_text.specs.NumberWords.{number_fault, number_value}
-use Rattle.cell_text.specs.Entries.{contents, is_metric_in_range, is_positive, are_positions_in_range, are_moments_in_range, positions, moments}
-use Rattle.cell_text.specs.Rules.{cell_fault, judged, later_fault, same_place, fault_after}
+use Rattle.cell_text.specs.Entries.{state_after, is_metric_in_range, is_positive, are_positions_in_range, are_moments_in_range, positions, moments}
+use Rattle.cell_text.specs.Rules.{cell_fault, heading_fault, later_fault, metric_fault, atom_fault, place_fault, end_fault, same_place, fault_after}
 use Rattle.cell_text.specs.CellFile.{names_of, cell_with, cell_of}
 
 -- the lines, each ended by LF
@@ -20,207 +21,223 @@ abbrev text_of : List (List ℕ) → List ℕ
 text_of ls = flat_map (λ l. l ++ 10 ∷ []) ls
 
 nonmagnetic : cell_fault (text_of (codes "magcell 1" ∷ codes "metric 1 1 1 0 0 0" ∷ codes "atom A 0 0 0" ∷ codes "end" ∷ [])) ≡ None
-unfolding cell_fault judged later_fault contents is_skipped is_heading has_bad_byte is_metric_line is_atom_line is_end_line number_words is_metric_in_range is_positive are_positions_in_range are_moments_in_range positions moments same_place gcd lcm word_fault number_fault number_value lowest
+unfolding cell_fault heading_fault later_fault metric_fault atom_fault place_fault end_fault state_after version_of entry_of has_bad_byte is_metric_in_range is_positive are_positions_in_range are_moments_in_range positions moments same_place gcd lcm word_fault number_fault number_value lowest
 nonmagnetic = refl
 
 ferromagnet : cell_fault (text_of (codes "magcell 1" ∷ codes "metric 1 1 1 0 0 0" ∷ codes "atom A 0 0 0 0 0 1" ∷ codes "end" ∷ [])) ≡ None
-unfolding cell_fault judged later_fault contents is_skipped is_heading has_bad_byte is_metric_line is_atom_line is_end_line number_words is_metric_in_range is_positive are_positions_in_range are_moments_in_range positions moments same_place gcd lcm word_fault number_fault number_value lowest
+unfolding cell_fault heading_fault later_fault metric_fault atom_fault place_fault end_fault state_after version_of entry_of has_bad_byte is_metric_in_range is_positive are_positions_in_range are_moments_in_range positions moments same_place gcd lcm word_fault number_fault number_value lowest
 ferromagnet = refl
 
 same_position : cell_fault (text_of (codes "magcell 1" ∷ codes "metric 1 1 1 0 0 0" ∷ codes "atom A 0 0 0" ∷ codes "atom B 1 0 0" ∷ codes "end" ∷ [])) ≡ Some (4, SamePlace 1 2)
-unfolding cell_fault judged later_fault contents is_skipped is_heading has_bad_byte is_metric_line is_atom_line is_end_line number_words is_metric_in_range is_positive are_positions_in_range are_moments_in_range positions moments same_place gcd lcm word_fault number_fault number_value lowest
+unfolding cell_fault heading_fault later_fault metric_fault atom_fault place_fault end_fault state_after version_of entry_of has_bad_byte is_metric_in_range is_positive are_positions_in_range are_moments_in_range positions moments same_place gcd lcm word_fault number_fault number_value lowest
 same_position = refl
 
 flat_metric : cell_fault (text_of (codes "magcell 1" ∷ codes "metric 1 1 1 0 0 1" ∷ codes "atom A 0 0 0" ∷ codes "end" ∷ [])) ≡ Some (2, NotPositive)
-unfolding cell_fault judged later_fault contents is_skipped is_heading has_bad_byte is_metric_line is_atom_line is_end_line number_words is_metric_in_range is_positive are_positions_in_range are_moments_in_range positions moments same_place gcd lcm word_fault number_fault number_value lowest
+unfolding cell_fault heading_fault later_fault metric_fault atom_fault place_fault end_fault state_after version_of entry_of has_bad_byte is_metric_in_range is_positive are_positions_in_range are_moments_in_range positions moments same_place gcd lcm word_fault number_fault number_value lowest
 flat_metric = refl
 
 no_metric_line : cell_fault (text_of (codes "magcell 1" ∷ codes "atom A 0 0 0" ∷ codes "end" ∷ [])) ≡ Some (3, MetricMissing)
-unfolding cell_fault judged later_fault contents is_skipped is_heading has_bad_byte is_metric_line is_atom_line is_end_line number_words is_metric_in_range is_positive are_positions_in_range are_moments_in_range positions moments same_place gcd lcm word_fault number_fault number_value lowest
+unfolding cell_fault heading_fault later_fault metric_fault atom_fault place_fault end_fault state_after version_of entry_of has_bad_byte is_metric_in_range is_positive are_positions_in_range are_moments_in_range positions moments same_place gcd lcm word_fault number_fault number_value lowest
 no_metric_line = refl
 
 no_atom_line : cell_fault (text_of (codes "magcell 1" ∷ codes "metric 1 1 1 0 0 0" ∷ codes "end" ∷ [])) ≡ Some (3, NoAtom)
-unfolding cell_fault judged later_fault contents is_skipped is_heading has_bad_byte is_metric_line is_atom_line is_end_line number_words is_metric_in_range is_positive are_positions_in_range are_moments_in_range positions moments same_place gcd lcm word_fault number_fault number_value lowest
+unfolding cell_fault heading_fault later_fault metric_fault atom_fault place_fault end_fault state_after version_of entry_of has_bad_byte is_metric_in_range is_positive are_positions_in_range are_moments_in_range positions moments same_place gcd lcm word_fault number_fault number_value lowest
 no_atom_line = refl
 
 large_moment : cell_fault (text_of (codes "magcell 1" ∷ codes "metric 1 1 1 0 0 0" ∷ codes "atom A 0 0 0 0 0 1000000001" ∷ codes "end" ∷ [])) ≡ Some (3, MomentRange)
-unfolding cell_fault judged later_fault contents is_skipped is_heading has_bad_byte is_metric_line is_atom_line is_end_line number_words is_metric_in_range is_positive are_positions_in_range are_moments_in_range positions moments same_place gcd lcm word_fault number_fault number_value lowest
+unfolding cell_fault heading_fault later_fault metric_fault atom_fault place_fault end_fault state_after version_of entry_of has_bad_byte is_metric_in_range is_positive are_positions_in_range are_moments_in_range positions moments same_place gcd lcm word_fault number_fault number_value lowest
 large_moment = refl
 
 largest_moment : cell_fault (text_of (codes "magcell 1" ∷ codes "metric 1 1 1 0 0 0" ∷ codes "atom A 0 0 0 0 0 1000000000" ∷ codes "end" ∷ [])) ≡ None
-unfolding cell_fault judged later_fault contents is_skipped is_heading has_bad_byte is_metric_line is_atom_line is_end_line number_words is_metric_in_range is_positive are_positions_in_range are_moments_in_range positions moments same_place gcd lcm word_fault number_fault number_value lowest
+unfolding cell_fault heading_fault later_fault metric_fault atom_fault place_fault end_fault state_after version_of entry_of has_bad_byte is_metric_in_range is_positive are_positions_in_range are_moments_in_range positions moments same_place gcd lcm word_fault number_fault number_value lowest
 largest_moment = refl
 
 moment_grown_by_a_later_denominator : cell_fault (text_of (codes "magcell 1" ∷ codes "metric 1 1 1 0 0 0" ∷ codes "atom A 0 0 0 0 0 1000000000" ∷ codes "atom A 1/2 0 0 0 0 1/2" ∷ codes "end" ∷ [])) ≡ Some (4, MomentRange)
-unfolding cell_fault judged later_fault contents is_skipped is_heading has_bad_byte is_metric_line is_atom_line is_end_line number_words is_metric_in_range is_positive are_positions_in_range are_moments_in_range positions moments same_place gcd lcm word_fault number_fault number_value lowest
+unfolding cell_fault heading_fault later_fault metric_fault atom_fault place_fault end_fault state_after version_of entry_of has_bad_byte is_metric_in_range is_positive are_positions_in_range are_moments_in_range positions moments same_place gcd lcm word_fault number_fault number_value lowest
 moment_grown_by_a_later_denominator = refl
 
 largest_denominator : cell_fault (text_of (codes "magcell 1" ∷ codes "metric 1 1 1 0 0 0" ∷ codes "atom A 1/1000000 0 0" ∷ codes "end" ∷ [])) ≡ None
-unfolding cell_fault judged later_fault contents is_skipped is_heading has_bad_byte is_metric_line is_atom_line is_end_line number_words is_metric_in_range is_positive are_positions_in_range are_moments_in_range positions moments same_place gcd lcm word_fault number_fault number_value lowest
+unfolding cell_fault heading_fault later_fault metric_fault atom_fault place_fault end_fault state_after version_of entry_of has_bad_byte is_metric_in_range is_positive are_positions_in_range are_moments_in_range positions moments same_place gcd lcm word_fault number_fault number_value lowest
 largest_denominator = refl
 
 large_denominator : cell_fault (text_of (codes "magcell 1" ∷ codes "metric 1 1 1 0 0 0" ∷ codes "atom A 1/1000001 0 0" ∷ codes "end" ∷ [])) ≡ Some (3, PositionRange)
-unfolding cell_fault judged later_fault contents is_skipped is_heading has_bad_byte is_metric_line is_atom_line is_end_line number_words is_metric_in_range is_positive are_positions_in_range are_moments_in_range positions moments same_place gcd lcm word_fault number_fault number_value lowest
+unfolding cell_fault heading_fault later_fault metric_fault atom_fault place_fault end_fault state_after version_of entry_of has_bad_byte is_metric_in_range is_positive are_positions_in_range are_moments_in_range positions moments same_place gcd lcm word_fault number_fault number_value lowest
 large_denominator = refl
 
 zero : cell_fault (text_of (codes "magcell 1" ∷ codes "metric 1 1 1 0 0 0" ∷ codes "atom A 1/0 0 0" ∷ codes "end" ∷ [])) ≡ Some (3, ZeroDenominator)
-unfolding cell_fault judged later_fault contents is_skipped is_heading has_bad_byte is_metric_line is_atom_line is_end_line number_words is_metric_in_range is_positive are_positions_in_range are_moments_in_range positions moments same_place gcd lcm word_fault number_fault number_value lowest
+unfolding cell_fault heading_fault later_fault metric_fault atom_fault place_fault end_fault state_after version_of entry_of has_bad_byte is_metric_in_range is_positive are_positions_in_range are_moments_in_range positions moments same_place gcd lcm word_fault number_fault number_value lowest
 zero = refl
 
 digits : cell_fault (text_of (codes "magcell 1" ∷ codes "metric 1 1 1 0 0 0" ∷ codes "atom A 1000000000000000000 0 0" ∷ codes "end" ∷ [])) ≡ Some (3, NumberRange)
-unfolding cell_fault judged later_fault contents is_skipped is_heading has_bad_byte is_metric_line is_atom_line is_end_line number_words is_metric_in_range is_positive are_positions_in_range are_moments_in_range positions moments same_place gcd lcm word_fault number_fault number_value lowest
+unfolding cell_fault heading_fault later_fault metric_fault atom_fault place_fault end_fault state_after version_of entry_of has_bad_byte is_metric_in_range is_positive are_positions_in_range are_moments_in_range positions moments same_place gcd lcm word_fault number_fault number_value lowest
 digits = refl
 
 point : cell_fault (text_of (codes "magcell 1" ∷ codes "metric 1 1 1 0 0 0" ∷ codes "atom A 1. 0 0" ∷ codes "end" ∷ [])) ≡ Some (3, BadNumber)
-unfolding cell_fault judged later_fault contents is_skipped is_heading has_bad_byte is_metric_line is_atom_line is_end_line number_words is_metric_in_range is_positive are_positions_in_range are_moments_in_range positions moments same_place gcd lcm word_fault number_fault number_value lowest
+unfolding cell_fault heading_fault later_fault metric_fault atom_fault place_fault end_fault state_after version_of entry_of has_bad_byte is_metric_in_range is_positive are_positions_in_range are_moments_in_range positions moments same_place gcd lcm word_fault number_fault number_value lowest
 point = refl
 
 half : cell_fault (text_of (codes "magcell 1" ∷ codes "metric 1 1 1 0 0 0" ∷ codes "atom A 2/4 0 0" ∷ codes "end" ∷ [])) ≡ None
-unfolding cell_fault judged later_fault contents is_skipped is_heading has_bad_byte is_metric_line is_atom_line is_end_line number_words is_metric_in_range is_positive are_positions_in_range are_moments_in_range positions moments same_place gcd lcm word_fault number_fault number_value lowest
+unfolding cell_fault heading_fault later_fault metric_fault atom_fault place_fault end_fault state_after version_of entry_of has_bad_byte is_metric_in_range is_positive are_positions_in_range are_moments_in_range positions moments same_place gcd lcm word_fault number_fault number_value lowest
 half = refl
 
 metric : cell_fault (text_of (codes "magcell 1" ∷ codes "metric 1000000001 1 1 0 0 0" ∷ codes "atom A 0 0 0" ∷ codes "end" ∷ [])) ≡ Some (2, MetricRange)
-unfolding cell_fault judged later_fault contents is_skipped is_heading has_bad_byte is_metric_line is_atom_line is_end_line number_words is_metric_in_range is_positive are_positions_in_range are_moments_in_range positions moments same_place gcd lcm word_fault number_fault number_value lowest
+unfolding cell_fault heading_fault later_fault metric_fault atom_fault place_fault end_fault state_after version_of entry_of has_bad_byte is_metric_in_range is_positive are_positions_in_range are_moments_in_range positions moments same_place gcd lcm word_fault number_fault number_value lowest
 metric = refl
 
 last_metric : cell_fault (text_of (codes "magcell 1" ∷ codes "metric 1000000000 1 1 0 0 0" ∷ codes "atom A 0 0 0" ∷ codes "end" ∷ [])) ≡ None
-unfolding cell_fault judged later_fault contents is_skipped is_heading has_bad_byte is_metric_line is_atom_line is_end_line number_words is_metric_in_range is_positive are_positions_in_range are_moments_in_range positions moments same_place gcd lcm word_fault number_fault number_value lowest
+unfolding cell_fault heading_fault later_fault metric_fault atom_fault place_fault end_fault state_after version_of entry_of has_bad_byte is_metric_in_range is_positive are_positions_in_range are_moments_in_range positions moments same_place gcd lcm word_fault number_fault number_value lowest
 last_metric = refl
 
 no_end : cell_fault (text_of (codes "magcell 1" ∷ codes "metric 1 1 1 0 0 0" ∷ codes "atom A 0 0 0 0 0 1" ∷ [])) ≡ Some (4, NoEnd)
-unfolding cell_fault judged later_fault contents is_skipped is_heading has_bad_byte is_metric_line is_atom_line is_end_line number_words is_metric_in_range is_positive are_positions_in_range are_moments_in_range positions moments same_place gcd lcm word_fault number_fault number_value lowest
+unfolding cell_fault heading_fault later_fault metric_fault atom_fault place_fault end_fault state_after version_of entry_of has_bad_byte is_metric_in_range is_positive are_positions_in_range are_moments_in_range positions moments same_place gcd lcm word_fault number_fault number_value lowest
 no_end = refl
 
 behind_the_end : cell_fault (text_of (codes "magcell 1" ∷ codes "metric 1 1 1 0 0 0" ∷ codes "atom A 0 0 0 0 0 1" ∷ codes "end" ∷ codes "atom B 1/2 0 0" ∷ [])) ≡ Some (5, AfterEnd)
-unfolding cell_fault judged later_fault contents is_skipped is_heading has_bad_byte is_metric_line is_atom_line is_end_line number_words is_metric_in_range is_positive are_positions_in_range are_moments_in_range positions moments same_place gcd lcm word_fault number_fault number_value lowest
+unfolding cell_fault heading_fault later_fault metric_fault atom_fault place_fault end_fault state_after version_of entry_of has_bad_byte is_metric_in_range is_positive are_positions_in_range are_moments_in_range positions moments same_place gcd lcm word_fault number_fault number_value lowest
 behind_the_end = refl
 
 empty : cell_fault [] ≡ Some (1, NotMagcell)
-unfolding cell_fault judged later_fault contents is_skipped is_heading has_bad_byte is_metric_line is_atom_line is_end_line number_words is_metric_in_range is_positive are_positions_in_range are_moments_in_range positions moments same_place gcd lcm word_fault number_fault number_value lowest
+unfolding cell_fault heading_fault later_fault metric_fault atom_fault place_fault end_fault state_after version_of entry_of has_bad_byte is_metric_in_range is_positive are_positions_in_range are_moments_in_range positions moments same_place gcd lcm word_fault number_fault number_value lowest
 empty = refl
 
 cut_metric_line : cell_fault (text_of (codes "magcell 1" ∷ []) ++ codes "metric 1 1 1 0 0") ≡ Some (2, BadLine)
-unfolding cell_fault judged later_fault contents is_skipped is_heading has_bad_byte is_metric_line is_atom_line is_end_line number_words is_metric_in_range is_positive are_positions_in_range are_moments_in_range positions moments same_place gcd lcm word_fault number_fault number_value lowest
+unfolding cell_fault heading_fault later_fault metric_fault atom_fault place_fault end_fault state_after version_of entry_of has_bad_byte is_metric_in_range is_positive are_positions_in_range are_moments_in_range positions moments same_place gcd lcm word_fault number_fault number_value lowest
 cut_metric_line = refl
 
 returns : cell_fault (text_of ((codes "magcell 1" ++ (13 ∷ [])) ∷ (codes "metric 1 1 1 0 0 0" ++ (13 ∷ [])) ∷ (codes "atom A 0 0 0 0 0 1" ++ (13 ∷ [])) ∷ (codes "end" ++ (13 ∷ [])) ∷ [])) ≡ None
-unfolding cell_fault judged later_fault contents is_skipped is_heading has_bad_byte is_metric_line is_atom_line is_end_line number_words is_metric_in_range is_positive are_positions_in_range are_moments_in_range positions moments same_place gcd lcm word_fault number_fault number_value lowest
+unfolding cell_fault heading_fault later_fault metric_fault atom_fault place_fault end_fault state_after version_of entry_of has_bad_byte is_metric_in_range is_positive are_positions_in_range are_moments_in_range positions moments same_place gcd lcm word_fault number_fault number_value lowest
 returns = refl
 
 lone_return : cell_fault (text_of (codes "magcell 1" ∷ []) ++ (13 ∷ [])) ≡ Some (3, NoEnd)
-unfolding cell_fault judged later_fault contents is_skipped is_heading has_bad_byte is_metric_line is_atom_line is_end_line number_words is_metric_in_range is_positive are_positions_in_range are_moments_in_range positions moments same_place gcd lcm word_fault number_fault number_value lowest
+unfolding cell_fault heading_fault later_fault metric_fault atom_fault place_fault end_fault state_after version_of entry_of has_bad_byte is_metric_in_range is_positive are_positions_in_range are_moments_in_range positions moments same_place gcd lcm word_fault number_fault number_value lowest
 lone_return = refl
 
 two_returns : cell_fault (text_of (codes "magcell 1" ∷ (codes "metric 1 1 1 0 0 0" ++ (13 ∷ []) ++ (13 ∷ [])) ∷ [])) ≡ Some (2, BadByte)
-unfolding cell_fault judged later_fault contents is_skipped is_heading has_bad_byte is_metric_line is_atom_line is_end_line number_words is_metric_in_range is_positive are_positions_in_range are_moments_in_range positions moments same_place gcd lcm word_fault number_fault number_value lowest
+unfolding cell_fault heading_fault later_fault metric_fault atom_fault place_fault end_fault state_after version_of entry_of has_bad_byte is_metric_in_range is_positive are_positions_in_range are_moments_in_range positions moments same_place gcd lcm word_fault number_fault number_value lowest
 two_returns = refl
 
 comment : cell_fault (text_of (codes "magcell 1" ∷ (codes "  #" ++ (13 ∷ []) ++ (1 ∷ []) ++ (255 ∷ []) ++ (13 ∷ [])) ∷ codes "metric 1 1 1 0 0 0" ∷ codes "atom A 0 0 0" ∷ codes "end" ∷ [])) ≡ None
-unfolding cell_fault judged later_fault contents is_skipped is_heading has_bad_byte is_metric_line is_atom_line is_end_line number_words is_metric_in_range is_positive are_positions_in_range are_moments_in_range positions moments same_place gcd lcm word_fault number_fault number_value lowest
+unfolding cell_fault heading_fault later_fault metric_fault atom_fault place_fault end_fault state_after version_of entry_of has_bad_byte is_metric_in_range is_positive are_positions_in_range are_moments_in_range positions moments same_place gcd lcm word_fault number_fault number_value lowest
 comment = refl
 
 first_line_comment : cell_fault (text_of ((codes "#" ++ (255 ∷ [])) ∷ [])) ≡ Some (1, BadByte)
-unfolding cell_fault judged later_fault contents is_skipped is_heading has_bad_byte is_metric_line is_atom_line is_end_line number_words is_metric_in_range is_positive are_positions_in_range are_moments_in_range positions moments same_place gcd lcm word_fault number_fault number_value lowest
+unfolding cell_fault heading_fault later_fault metric_fault atom_fault place_fault end_fault state_after version_of entry_of has_bad_byte is_metric_in_range is_positive are_positions_in_range are_moments_in_range positions moments same_place gcd lcm word_fault number_fault number_value lowest
 first_line_comment = refl
 
 blank_first : cell_fault (text_of ([] ∷ codes "magcell 1" ∷ [])) ≡ Some (1, NotMagcell)
-unfolding cell_fault judged later_fault contents is_skipped is_heading has_bad_byte is_metric_line is_atom_line is_end_line number_words is_metric_in_range is_positive are_positions_in_range are_moments_in_range positions moments same_place gcd lcm word_fault number_fault number_value lowest
+unfolding cell_fault heading_fault later_fault metric_fault atom_fault place_fault end_fault state_after version_of entry_of has_bad_byte is_metric_in_range is_positive are_positions_in_range are_moments_in_range positions moments same_place gcd lcm word_fault number_fault number_value lowest
 blank_first = refl
 
 minus : cell_fault (text_of (codes "magcell 1" ∷ []) ++ codes "metric - 1 1 0 0 0") ≡ Some (2, BadNumber)
-unfolding cell_fault judged later_fault contents is_skipped is_heading has_bad_byte is_metric_line is_atom_line is_end_line number_words is_metric_in_range is_positive are_positions_in_range are_moments_in_range positions moments same_place gcd lcm word_fault number_fault number_value lowest
+unfolding cell_fault heading_fault later_fault metric_fault atom_fault place_fault end_fault state_after version_of entry_of has_bad_byte is_metric_in_range is_positive are_positions_in_range are_moments_in_range positions moments same_place gcd lcm word_fault number_fault number_value lowest
 minus = refl
 
 slash_first : cell_fault (text_of (codes "magcell 1" ∷ []) ++ codes "metric 1/ 1 1 0 0 0") ≡ Some (2, BadNumber)
-unfolding cell_fault judged later_fault contents is_skipped is_heading has_bad_byte is_metric_line is_atom_line is_end_line number_words is_metric_in_range is_positive are_positions_in_range are_moments_in_range positions moments same_place gcd lcm word_fault number_fault number_value lowest
+unfolding cell_fault heading_fault later_fault metric_fault atom_fault place_fault end_fault state_after version_of entry_of has_bad_byte is_metric_in_range is_positive are_positions_in_range are_moments_in_range positions moments same_place gcd lcm word_fault number_fault number_value lowest
 slash_first = refl
 
 two_slashes : cell_fault (text_of (codes "magcell 1" ∷ []) ++ codes "metric 1/1/1 1 1 0 0 0") ≡ Some (2, BadNumber)
-unfolding cell_fault judged later_fault contents is_skipped is_heading has_bad_byte is_metric_line is_atom_line is_end_line number_words is_metric_in_range is_positive are_positions_in_range are_moments_in_range positions moments same_place gcd lcm word_fault number_fault number_value lowest
+unfolding cell_fault heading_fault later_fault metric_fault atom_fault place_fault end_fault state_after version_of entry_of has_bad_byte is_metric_in_range is_positive are_positions_in_range are_moments_in_range positions moments same_place gcd lcm word_fault number_fault number_value lowest
 two_slashes = refl
 
 order : cell_fault (text_of (codes "magcell 1" ∷ []) ++ codes "metric 1/0 x 1 0 0 0") ≡ Some (2, ZeroDenominator)
-unfolding cell_fault judged later_fault contents is_skipped is_heading has_bad_byte is_metric_line is_atom_line is_end_line number_words is_metric_in_range is_positive are_positions_in_range are_moments_in_range positions moments same_place gcd lcm word_fault number_fault number_value lowest
+unfolding cell_fault heading_fault later_fault metric_fault atom_fault place_fault end_fault state_after version_of entry_of has_bad_byte is_metric_in_range is_positive are_positions_in_range are_moments_in_range positions moments same_place gcd lcm word_fault number_fault number_value lowest
 order = refl
 
 other_version : cell_fault (text_of (codes "magcell 2" ∷ [])) ≡ Some (1, NotMagcell)
-unfolding cell_fault judged later_fault contents is_skipped is_heading has_bad_byte is_metric_line is_atom_line is_end_line number_words is_metric_in_range is_positive are_positions_in_range are_moments_in_range positions moments same_place gcd lcm word_fault number_fault number_value lowest
+unfolding cell_fault heading_fault later_fault metric_fault atom_fault place_fault end_fault state_after version_of entry_of has_bad_byte is_metric_in_range is_positive are_positions_in_range are_moments_in_range positions moments same_place gcd lcm word_fault number_fault number_value lowest
 other_version = refl
 
 comment_before_the_heading : cell_fault (text_of ((codes "#" ++ (255 ∷ [])) ∷ codes "magcell 1" ∷ [])) ≡ Some (1, BadByte)
-unfolding cell_fault judged later_fault contents is_skipped is_heading has_bad_byte is_metric_line is_atom_line is_end_line number_words is_metric_in_range is_positive are_positions_in_range are_moments_in_range positions moments same_place gcd lcm word_fault number_fault number_value lowest
+unfolding cell_fault heading_fault later_fault metric_fault atom_fault place_fault end_fault state_after version_of entry_of has_bad_byte is_metric_in_range is_positive are_positions_in_range are_moments_in_range positions moments same_place gcd lcm word_fault number_fault number_value lowest
 comment_before_the_heading = refl
 
 zero_byte : cell_fault (text_of (codes "magcell 1" ∷ (0 ∷ []) ∷ [])) ≡ Some (2, BadByte)
-unfolding cell_fault judged later_fault contents is_skipped is_heading has_bad_byte is_metric_line is_atom_line is_end_line number_words is_metric_in_range is_positive are_positions_in_range are_moments_in_range positions moments same_place gcd lcm word_fault number_fault number_value lowest
+unfolding cell_fault heading_fault later_fault metric_fault atom_fault place_fault end_fault state_after version_of entry_of has_bad_byte is_metric_in_range is_positive are_positions_in_range are_moments_in_range positions moments same_place gcd lcm word_fault number_fault number_value lowest
 zero_byte = refl
 
 name_of_a_digit : cell_fault (text_of (codes "magcell 1" ∷ codes "atom 1A 0 0 0" ∷ [])) ≡ Some (2, BadLine)
-unfolding cell_fault judged later_fault contents is_skipped is_heading has_bad_byte is_metric_line is_atom_line is_end_line number_words is_metric_in_range is_positive are_positions_in_range are_moments_in_range positions moments same_place gcd lcm word_fault number_fault number_value lowest
+unfolding cell_fault heading_fault later_fault metric_fault atom_fault place_fault end_fault state_after version_of entry_of has_bad_byte is_metric_in_range is_positive are_positions_in_range are_moments_in_range positions moments same_place gcd lcm word_fault number_fault number_value lowest
 name_of_a_digit = refl
 
+name_of_nine_letters : cell_fault (text_of (codes "magcell 1" ∷ codes "atom Manganese 0 0 0" ∷ [])) ≡ Some (2, BadLine)
+unfolding cell_fault heading_fault later_fault metric_fault atom_fault place_fault end_fault state_after version_of entry_of has_bad_byte is_metric_in_range is_positive are_positions_in_range are_moments_in_range positions moments same_place gcd lcm word_fault number_fault number_value lowest
+name_of_nine_letters = refl
+
+name_of_eight_letters : cell_fault (text_of (codes "magcell 1" ∷ codes "metric 1 1 1 0 0 0" ∷ codes "atom Chromium 0 0 0" ∷ codes "end" ∷ [])) ≡ None
+unfolding cell_fault heading_fault later_fault metric_fault atom_fault place_fault end_fault state_after version_of entry_of has_bad_byte is_metric_in_range is_positive are_positions_in_range are_moments_in_range positions moments same_place gcd lcm word_fault number_fault number_value lowest
+name_of_eight_letters = refl
+
+decimal_before_the_metric : cell_fault (text_of (codes "magcell 1" ∷ codes "atom A 0.5 0 0" ∷ [])) ≡ Some (2, BadNumber)
+unfolding cell_fault heading_fault later_fault metric_fault atom_fault place_fault end_fault state_after version_of entry_of has_bad_byte is_metric_in_range is_positive are_positions_in_range are_moments_in_range positions moments same_place gcd lcm word_fault number_fault number_value lowest
+decimal_before_the_metric = refl
+
+moment_of_one_number : cell_fault (text_of (codes "magcell 1" ∷ codes "atom A 0 0 0 1" ∷ [])) ≡ Some (2, BadLine)
+unfolding cell_fault heading_fault later_fault metric_fault atom_fault place_fault end_fault state_after version_of entry_of has_bad_byte is_metric_in_range is_positive are_positions_in_range are_moments_in_range positions moments same_place gcd lcm word_fault number_fault number_value lowest
+moment_of_one_number = refl
+
 point_before_the_metric : cell_fault (text_of (codes "magcell 1" ∷ codes "atom A 1. 0 0" ∷ [])) ≡ Some (2, BadNumber)
-unfolding cell_fault judged later_fault contents is_skipped is_heading has_bad_byte is_metric_line is_atom_line is_end_line number_words is_metric_in_range is_positive are_positions_in_range are_moments_in_range positions moments same_place gcd lcm word_fault number_fault number_value lowest
+unfolding cell_fault heading_fault later_fault metric_fault atom_fault place_fault end_fault state_after version_of entry_of has_bad_byte is_metric_in_range is_positive are_positions_in_range are_moments_in_range positions moments same_place gcd lcm word_fault number_fault number_value lowest
 point_before_the_metric = refl
 
 first_of_two_numbers : cell_fault (text_of (codes "magcell 1" ∷ codes "atom A 0 - 1/0" ∷ [])) ≡ Some (2, BadNumber)
-unfolding cell_fault judged later_fault contents is_skipped is_heading has_bad_byte is_metric_line is_atom_line is_end_line number_words is_metric_in_range is_positive are_positions_in_range are_moments_in_range positions moments same_place gcd lcm word_fault number_fault number_value lowest
+unfolding cell_fault heading_fault later_fault metric_fault atom_fault place_fault end_fault state_after version_of entry_of has_bad_byte is_metric_in_range is_positive are_positions_in_range are_moments_in_range positions moments same_place gcd lcm word_fault number_fault number_value lowest
 first_of_two_numbers = refl
 
 nineteen_digits : cell_fault (text_of (codes "magcell 1" ∷ codes "atom A 0 1234567890123456789 0" ∷ [])) ≡ Some (2, NumberRange)
-unfolding cell_fault judged later_fault contents is_skipped is_heading has_bad_byte is_metric_line is_atom_line is_end_line number_words is_metric_in_range is_positive are_positions_in_range are_moments_in_range positions moments same_place gcd lcm word_fault number_fault number_value lowest
+unfolding cell_fault heading_fault later_fault metric_fault atom_fault place_fault end_fault state_after version_of entry_of has_bad_byte is_metric_in_range is_positive are_positions_in_range are_moments_in_range positions moments same_place gcd lcm word_fault number_fault number_value lowest
 nineteen_digits = refl
 
 zero_in_the_metric : cell_fault (text_of (codes "magcell 1" ∷ codes "# a comment" ∷ codes "metric 1 1 1/0 0 0 0" ∷ [])) ≡ Some (3, ZeroDenominator)
-unfolding cell_fault judged later_fault contents is_skipped is_heading has_bad_byte is_metric_line is_atom_line is_end_line number_words is_metric_in_range is_positive are_positions_in_range are_moments_in_range positions moments same_place gcd lcm word_fault number_fault number_value lowest
+unfolding cell_fault heading_fault later_fault metric_fault atom_fault place_fault end_fault state_after version_of entry_of has_bad_byte is_metric_in_range is_positive are_positions_in_range are_moments_in_range positions moments same_place gcd lcm word_fault number_fault number_value lowest
 zero_in_the_metric = refl
 
 metric_again : cell_fault (text_of (codes "magcell 1" ∷ codes "metric 1 1 1 0 0 0" ∷ codes "metric 1 1 1 0 0 0" ∷ [])) ≡ Some (3, MetricTwice)
-unfolding cell_fault judged later_fault contents is_skipped is_heading has_bad_byte is_metric_line is_atom_line is_end_line number_words is_metric_in_range is_positive are_positions_in_range are_moments_in_range positions moments same_place gcd lcm word_fault number_fault number_value lowest
+unfolding cell_fault heading_fault later_fault metric_fault atom_fault place_fault end_fault state_after version_of entry_of has_bad_byte is_metric_in_range is_positive are_positions_in_range are_moments_in_range positions moments same_place gcd lcm word_fault number_fault number_value lowest
 metric_again = refl
 
 metric_again_before_its_numbers : cell_fault (text_of (codes "magcell 1" ∷ codes "metric 1 1 1 0 0 0" ∷ codes "# once more" ∷ codes "metric x 1 1 0 0 0" ∷ [])) ≡ Some (4, MetricTwice)
-unfolding cell_fault judged later_fault contents is_skipped is_heading has_bad_byte is_metric_line is_atom_line is_end_line number_words is_metric_in_range is_positive are_positions_in_range are_moments_in_range positions moments same_place gcd lcm word_fault number_fault number_value lowest
+unfolding cell_fault heading_fault later_fault metric_fault atom_fault place_fault end_fault state_after version_of entry_of has_bad_byte is_metric_in_range is_positive are_positions_in_range are_moments_in_range positions moments same_place gcd lcm word_fault number_fault number_value lowest
 metric_again_before_its_numbers = refl
 
 metric_of_one_line : cell_fault (text_of (codes "magcell 1" ∷ codes "metric 1 1 1 1 0 0" ∷ [])) ≡ Some (2, NotPositive)
-unfolding cell_fault judged later_fault contents is_skipped is_heading has_bad_byte is_metric_line is_atom_line is_end_line number_words is_metric_in_range is_positive are_positions_in_range are_moments_in_range positions moments same_place gcd lcm word_fault number_fault number_value lowest
+unfolding cell_fault heading_fault later_fault metric_fault atom_fault place_fault end_fault state_after version_of entry_of has_bad_byte is_metric_in_range is_positive are_positions_in_range are_moments_in_range positions moments same_place gcd lcm word_fault number_fault number_value lowest
 metric_of_one_line = refl
 
 large_denominator_before_the_metric : cell_fault (text_of (codes "magcell 1" ∷ codes "atom A 1/1000001 0 0" ∷ [])) ≡ Some (2, PositionRange)
-unfolding cell_fault judged later_fault contents is_skipped is_heading has_bad_byte is_metric_line is_atom_line is_end_line number_words is_metric_in_range is_positive are_positions_in_range are_moments_in_range positions moments same_place gcd lcm word_fault number_fault number_value lowest
+unfolding cell_fault heading_fault later_fault metric_fault atom_fault place_fault end_fault state_after version_of entry_of has_bad_byte is_metric_in_range is_positive are_positions_in_range are_moments_in_range positions moments same_place gcd lcm word_fault number_fault number_value lowest
 large_denominator_before_the_metric = refl
 
 large_common_denominator : cell_fault (text_of (codes "magcell 1" ∷ codes "atom A 1/1000 0 0" ∷ codes "atom B 1/999 1/7 0" ∷ [])) ≡ Some (3, PositionRange)
-unfolding cell_fault judged later_fault contents is_skipped is_heading has_bad_byte is_metric_line is_atom_line is_end_line number_words is_metric_in_range is_positive are_positions_in_range are_moments_in_range positions moments same_place gcd lcm word_fault number_fault number_value lowest
+unfolding cell_fault heading_fault later_fault metric_fault atom_fault place_fault end_fault state_after version_of entry_of has_bad_byte is_metric_in_range is_positive are_positions_in_range are_moments_in_range positions moments same_place gcd lcm word_fault number_fault number_value lowest
 large_common_denominator = refl
 
 large_moment_before_the_metric : cell_fault (text_of (codes "magcell 1" ∷ codes "atom A 0 0 0 0 0 1000000001" ∷ [])) ≡ Some (2, MomentRange)
-unfolding cell_fault judged later_fault contents is_skipped is_heading has_bad_byte is_metric_line is_atom_line is_end_line number_words is_metric_in_range is_positive are_positions_in_range are_moments_in_range positions moments same_place gcd lcm word_fault number_fault number_value lowest
+unfolding cell_fault heading_fault later_fault metric_fault atom_fault place_fault end_fault state_after version_of entry_of has_bad_byte is_metric_in_range is_positive are_positions_in_range are_moments_in_range positions moments same_place gcd lcm word_fault number_fault number_value lowest
 large_moment_before_the_metric = refl
 
 moment_grown_before_the_metric : cell_fault (text_of (codes "magcell 1" ∷ codes "atom A 0 0 0 0 0 1000000000" ∷ codes "atom A 1/2 0 0 0 0 1/2" ∷ [])) ≡ Some (3, MomentRange)
-unfolding cell_fault judged later_fault contents is_skipped is_heading has_bad_byte is_metric_line is_atom_line is_end_line number_words is_metric_in_range is_positive are_positions_in_range are_moments_in_range positions moments same_place gcd lcm word_fault number_fault number_value lowest
+unfolding cell_fault heading_fault later_fault metric_fault atom_fault place_fault end_fault state_after version_of entry_of has_bad_byte is_metric_in_range is_positive are_positions_in_range are_moments_in_range positions moments same_place gcd lcm word_fault number_fault number_value lowest
 moment_grown_before_the_metric = refl
 
 same_position_but_for_cells : cell_fault (text_of (codes "magcell 1" ∷ codes "atom A 0 0 1/2" ∷ codes "atom B 1/3 0 0" ∷ codes "atom C -2/3 5 -3" ∷ [])) ≡ Some (4, SamePlace 2 3)
-unfolding cell_fault judged later_fault contents is_skipped is_heading has_bad_byte is_metric_line is_atom_line is_end_line number_words is_metric_in_range is_positive are_positions_in_range are_moments_in_range positions moments same_place gcd lcm word_fault number_fault number_value lowest
+unfolding cell_fault heading_fault later_fault metric_fault atom_fault place_fault end_fault state_after version_of entry_of has_bad_byte is_metric_in_range is_positive are_positions_in_range are_moments_in_range positions moments same_place gcd lcm word_fault number_fault number_value lowest
 same_position_but_for_cells = refl
 
 end_again : cell_fault (text_of (codes "magcell 1" ∷ codes "metric 1 1 1 0 0 0" ∷ codes "atom A 0 0 0" ∷ codes "end" ∷ codes "end" ∷ [])) ≡ Some (5, AfterEnd)
-unfolding cell_fault judged later_fault contents is_skipped is_heading has_bad_byte is_metric_line is_atom_line is_end_line number_words is_metric_in_range is_positive are_positions_in_range are_moments_in_range positions moments same_place gcd lcm word_fault number_fault number_value lowest
+unfolding cell_fault heading_fault later_fault metric_fault atom_fault place_fault end_fault state_after version_of entry_of has_bad_byte is_metric_in_range is_positive are_positions_in_range are_moments_in_range positions moments same_place gcd lcm word_fault number_fault number_value lowest
 end_again = refl
 
 behind_a_blank_line : cell_fault (text_of (codes "magcell 1" ∷ codes "metric 1 1 1 0 0 0" ∷ codes "atom A 0 0 0" ∷ codes "end" ∷ [] ∷ codes "atom B 1/2 0 0" ∷ [])) ≡ Some (6, AfterEnd)
-unfolding cell_fault judged later_fault contents is_skipped is_heading has_bad_byte is_metric_line is_atom_line is_end_line number_words is_metric_in_range is_positive are_positions_in_range are_moments_in_range positions moments same_place gcd lcm word_fault number_fault number_value lowest
+unfolding cell_fault heading_fault later_fault metric_fault atom_fault place_fault end_fault state_after version_of entry_of has_bad_byte is_metric_in_range is_positive are_positions_in_range are_moments_in_range positions moments same_place gcd lcm word_fault number_fault number_value lowest
 behind_a_blank_line = refl
 
 antiferromagnet : cell_of (lines (text_of (codes "magcell 1" ∷ codes "metric 1 1 4 0 0 0" ∷ codes "atom A 0 0 0 0 0 1" ∷ codes "atom A 0 0 1/2 0 0 -1" ∷ codes "end" ∷ []))) ≡ record { names = (65 ∷ []) ∷ []; scale = pos 1; metric = record { a11 = pos 1; a12 = pos 0; a13 = pos 0; a21 = pos 0; a22 = pos 1; a23 = pos 0; a31 = pos 0; a32 = pos 0; a33 = pos 4 }; n = 2; k = 1; kind = axial_vectors; sites = record { species = 0; position = record { x = pos 0; y = pos 0; z = pos 0 }; moment = record { x = pos 0; y = pos 0; z = pos 1 } } ∷ record { species = 0; position = record { x = pos 0; y = pos 0; z = pos 1 }; moment = record { x = pos 0; y = pos 0; z = negsuc 0 } } ∷ [] }
-unfolding cell_fault judged later_fault contents is_skipped is_heading has_bad_byte is_metric_line is_atom_line is_end_line number_words is_metric_in_range is_positive are_positions_in_range are_moments_in_range positions moments same_place gcd lcm word_fault number_fault number_value lowest names_of cell_with residue
+unfolding cell_fault heading_fault later_fault metric_fault atom_fault place_fault end_fault state_after version_of entry_of has_bad_byte is_metric_in_range is_positive are_positions_in_range are_moments_in_range positions moments same_place gcd lcm word_fault number_fault number_value lowest names_of cell_with residue
 antiferromagnet = refl
 
 manganese_fluoride : cell_of (lines (text_of (codes "magcell 1" ∷ codes "metric 2375/100 2375/100 1096/100 0 0 0" ∷ codes "atom Mn 0 0 0 0 0 1" ∷ codes "atom Mn 1/2 1/2 1/2 0 0 -1" ∷ codes "atom F 61/200 61/200 0" ∷ codes "atom F -61/200 -61/200 0" ∷ codes "atom F 161/200 39/200 1/2" ∷ codes "atom F 39/200 161/200 1/2" ∷ codes "end" ∷ []))) ≡ record { names = (77 ∷ 110 ∷ []) ∷ (70 ∷ []) ∷ []; scale = pos 100; metric = record { a11 = pos 2375; a12 = pos 0; a13 = pos 0; a21 = pos 0; a22 = pos 2375; a23 = pos 0; a31 = pos 0; a32 = pos 0; a33 = pos 1096 }; n = 200; k = 1; kind = axial_vectors; sites = record { species = 0; position = record { x = pos 0; y = pos 0; z = pos 0 }; moment = record { x = pos 0; y = pos 0; z = pos 1 } } ∷ record { species = 0; position = record { x = pos 100; y = pos 100; z = pos 100 }; moment = record { x = pos 0; y = pos 0; z = negsuc 0 } } ∷ record { species = 1; position = record { x = pos 61; y = pos 61; z = pos 0 }; moment = record { x = pos 0; y = pos 0; z = pos 0 } } ∷ record { species = 1; position = record { x = pos 139; y = pos 139; z = pos 0 }; moment = record { x = pos 0; y = pos 0; z = pos 0 } } ∷ record { species = 1; position = record { x = pos 161; y = pos 39; z = pos 100 }; moment = record { x = pos 0; y = pos 0; z = pos 0 } } ∷ record { species = 1; position = record { x = pos 39; y = pos 161; z = pos 100 }; moment = record { x = pos 0; y = pos 0; z = pos 0 } } ∷ [] }
-unfolding cell_fault judged later_fault contents is_skipped is_heading has_bad_byte is_metric_line is_atom_line is_end_line number_words is_metric_in_range is_positive are_positions_in_range are_moments_in_range positions moments same_place gcd lcm word_fault number_fault number_value lowest names_of cell_with residue
+unfolding cell_fault heading_fault later_fault metric_fault atom_fault place_fault end_fault state_after version_of entry_of has_bad_byte is_metric_in_range is_positive are_positions_in_range are_moments_in_range positions moments same_place gcd lcm word_fault number_fault number_value lowest names_of cell_with residue
 manganese_fluoride = refl
 
 -- three atoms of two species, with n = 6 and k = 2
@@ -228,11 +245,11 @@ abbrev three_atoms : Structure
 three_atoms = record { names = codes "Mn" ∷ codes "F_1" ∷ []; scale = pos 1; metric = record { a11 = pos 2; a12 = pos 0; a13 = pos 0; a21 = pos 0; a22 = pos 2; a23 = pos 0; a31 = pos 0; a32 = pos 0; a33 = pos 2 }; n = 6; k = 2; kind = axial_vectors; sites = record { species = 0; position = record { x = pos 0; y = pos 0; z = pos 0 }; moment = record { x = pos 0; y = pos 0; z = pos 1 } } ∷ record { species = 1; position = record { x = pos 3; y = pos 4; z = pos 0 }; moment = record { x = pos 0; y = pos 0; z = pos 0 } } ∷ record { species = 0; position = record { x = pos 3; y = pos 0; z = pos 0 }; moment = record { x = pos 2; y = pos 0; z = pos 0 } } ∷ [] }
 
 three_atoms_in_lowest_terms_and_others : (cell_fault (text_of (codes "magcell 1" ∷ codes "metric 2 2 4/2 0 0 -0" ∷ codes "atom Mn 0 0 0 0 0 1/2" ∷ codes "atom F_1 2/4 -1/3 7" ∷ codes "atom Mn 1/2 0 0 1 0 0" ∷ codes "end" ∷ [])) ≡ None) × (cell_of (lines (text_of (codes "magcell 1" ∷ codes "metric 2 2 4/2 0 0 -0" ∷ codes "atom Mn 0 0 0 0 0 1/2" ∷ codes "atom F_1 2/4 -1/3 7" ∷ codes "atom Mn 1/2 0 0 1 0 0" ∷ codes "end" ∷ []))) ≡ three_atoms)
-unfolding cell_fault judged later_fault contents is_skipped is_heading has_bad_byte is_metric_line is_atom_line is_end_line number_words is_metric_in_range is_positive are_positions_in_range are_moments_in_range positions moments same_place gcd lcm word_fault number_fault number_value lowest names_of cell_with residue
+unfolding cell_fault heading_fault later_fault metric_fault atom_fault place_fault end_fault state_after version_of entry_of has_bad_byte is_metric_in_range is_positive are_positions_in_range are_moments_in_range positions moments same_place gcd lcm word_fault number_fault number_value lowest names_of cell_with residue
 three_atoms_in_lowest_terms_and_others = (refl, refl)
 
 three_atoms_between_blanks_and_comments : (cell_fault (text_of (((9 ∷ []) ++ codes "magcell   1 " ++ (13 ∷ [])) ∷ (codes "# a comment " ++ (255 ∷ []) ++ (13 ∷ [])) ∷ (13 ∷ []) ∷ (codes "atom Mn 0 0 0 0 0 1/2" ++ (13 ∷ [])) ∷ (codes "atom F_1 1/2 2/3 0" ++ (13 ∷ [])) ∷ (codes " atom Mn 3/6 -0 0 1 0 0" ++ (13 ∷ [])) ∷ (codes "metric 2 2 2 0 0 0" ++ (13 ∷ [])) ∷ (codes "end" ++ (13 ∷ [])) ∷ (13 ∷ []) ∷ (codes "# behind" ++ (13 ∷ [])) ∷ [])) ≡ None) × (cell_of (lines (text_of (((9 ∷ []) ++ codes "magcell   1 " ++ (13 ∷ [])) ∷ (codes "# a comment " ++ (255 ∷ []) ++ (13 ∷ [])) ∷ (13 ∷ []) ∷ (codes "atom Mn 0 0 0 0 0 1/2" ++ (13 ∷ [])) ∷ (codes "atom F_1 1/2 2/3 0" ++ (13 ∷ [])) ∷ (codes " atom Mn 3/6 -0 0 1 0 0" ++ (13 ∷ [])) ∷ (codes "metric 2 2 2 0 0 0" ++ (13 ∷ [])) ∷ (codes "end" ++ (13 ∷ [])) ∷ (13 ∷ []) ∷ (codes "# behind" ++ (13 ∷ [])) ∷ []))) ≡ three_atoms)
-unfolding cell_fault judged later_fault contents is_skipped is_heading has_bad_byte is_metric_line is_atom_line is_end_line number_words is_metric_in_range is_positive are_positions_in_range are_moments_in_range positions moments same_place gcd lcm word_fault number_fault number_value lowest names_of cell_with residue
+unfolding cell_fault heading_fault later_fault metric_fault atom_fault place_fault end_fault state_after version_of entry_of has_bad_byte is_metric_in_range is_positive are_positions_in_range are_moments_in_range positions moments same_place gcd lcm word_fault number_fault number_value lowest names_of cell_with residue
 three_atoms_between_blanks_and_comments = (refl, refl)
 
 -- the units n and k, and how many atoms there are
@@ -240,26 +257,49 @@ abbrev units : Structure → ℕ × (ℕ × ℕ)
 units c = (c.n, (c.k, length c.sites))
 
 units_of_the_largest_moment : units (cell_of (lines (text_of (codes "magcell 1" ∷ codes "metric 1 1 1 0 0 0" ∷ codes "atom A 0 0 0 0 0 1000000000" ∷ codes "end" ∷ [])))) ≡ (1, (1, 1))
-unfolding cell_fault judged later_fault contents is_skipped is_heading has_bad_byte is_metric_line is_atom_line is_end_line number_words is_metric_in_range is_positive are_positions_in_range are_moments_in_range positions moments same_place gcd lcm word_fault number_fault number_value lowest names_of cell_with residue
+unfolding cell_fault heading_fault later_fault metric_fault atom_fault place_fault end_fault state_after version_of entry_of has_bad_byte is_metric_in_range is_positive are_positions_in_range are_moments_in_range positions moments same_place gcd lcm word_fault number_fault number_value lowest names_of cell_with residue
 units_of_the_largest_moment = refl
 
 units_of_the_largest_denominator : units (cell_of (lines (text_of (codes "magcell 1" ∷ codes "metric 1 1 1 0 0 0" ∷ codes "atom A 1/1000000 0 0" ∷ codes "end" ∷ [])))) ≡ (1000000, (1, 1))
-unfolding cell_fault judged later_fault contents is_skipped is_heading has_bad_byte is_metric_line is_atom_line is_end_line number_words is_metric_in_range is_positive are_positions_in_range are_moments_in_range positions moments same_place gcd lcm word_fault number_fault number_value lowest names_of cell_with residue
+unfolding cell_fault heading_fault later_fault metric_fault atom_fault place_fault end_fault state_after version_of entry_of has_bad_byte is_metric_in_range is_positive are_positions_in_range are_moments_in_range positions moments same_place gcd lcm word_fault number_fault number_value lowest names_of cell_with residue
 units_of_the_largest_denominator = refl
 
 units_of_two_quarters : units (cell_of (lines (text_of (codes "magcell 1" ∷ codes "metric 1 1 1 0 0 0" ∷ codes "atom A 2/4 0 0" ∷ codes "end" ∷ [])))) ≡ (2, (1, 1))
-unfolding cell_fault judged later_fault contents is_skipped is_heading has_bad_byte is_metric_line is_atom_line is_end_line number_words is_metric_in_range is_positive are_positions_in_range are_moments_in_range positions moments same_place gcd lcm word_fault number_fault number_value lowest names_of cell_with residue
+unfolding cell_fault heading_fault later_fault metric_fault atom_fault place_fault end_fault state_after version_of entry_of has_bad_byte is_metric_in_range is_positive are_positions_in_range are_moments_in_range positions moments same_place gcd lcm word_fault number_fault number_value lowest names_of cell_with residue
 units_of_two_quarters = refl
 
 units_of_the_largest_metric : units (cell_of (lines (text_of (codes "magcell 1" ∷ codes "metric 1000000000 1 1 0 0 0" ∷ codes "atom A 0 0 0" ∷ codes "end" ∷ [])))) ≡ (1, (1, 1))
-unfolding cell_fault judged later_fault contents is_skipped is_heading has_bad_byte is_metric_line is_atom_line is_end_line number_words is_metric_in_range is_positive are_positions_in_range are_moments_in_range positions moments same_place gcd lcm word_fault number_fault number_value lowest names_of cell_with residue
+unfolding cell_fault heading_fault later_fault metric_fault atom_fault place_fault end_fault state_after version_of entry_of has_bad_byte is_metric_in_range is_positive are_positions_in_range are_moments_in_range positions moments same_place gcd lcm word_fault number_fault number_value lowest names_of cell_with residue
 units_of_the_largest_metric = refl
 
 units_of_a_third_of_a_moment : units (cell_of (lines (text_of ((codes "magcell 1" ++ (13 ∷ [])) ∷ (codes "metric 1 1 1 0 0 0" ++ (13 ∷ [])) ∷ (codes "atom A 0 0 0 0 0 1/3" ++ (13 ∷ [])) ∷ (codes "end" ++ (13 ∷ [])) ∷ [])))) ≡ (1, (3, 1))
-unfolding cell_fault judged later_fault contents is_skipped is_heading has_bad_byte is_metric_line is_atom_line is_end_line number_words is_metric_in_range is_positive are_positions_in_range are_moments_in_range positions moments same_place gcd lcm word_fault number_fault number_value lowest names_of cell_with residue
+unfolding cell_fault heading_fault later_fault metric_fault atom_fault place_fault end_fault state_after version_of entry_of has_bad_byte is_metric_in_range is_positive are_positions_in_range are_moments_in_range positions moments same_place gcd lcm word_fault number_fault number_value lowest names_of cell_with residue
 units_of_a_third_of_a_moment = refl
+
+-- what a line is, whether its words are numbers or not
+skipped_lines : map (entry_of One) (codes "" ∷ codes " \t" ∷ codes "# metric" ∷ codes " #end" ∷ []) ≡ skipped ∷ skipped ∷ skipped ∷ skipped ∷ []
+unfolding entry_of
+skipped_lines = refl
+
+told_lines : map (entry_of One) (codes "metric 1 x 1 0 0 0/0" ∷ codes "atom A 1/2 - 0" ∷ codes "\tatom A 0 0 0  m 0 1" ∷ codes "end " ∷ [])
+    ≡ metric_entry (codes "1" ∷ codes "x" ∷ codes "1" ∷ codes "0" ∷ codes "0" ∷ codes "0/0" ∷ [])
+    ∷ atom_entry (codes "A") (codes "1/2" ∷ codes "-" ∷ codes "0" ∷ [])
+    ∷ atom_entry (codes "A") (codes "0" ∷ codes "0" ∷ codes "0" ∷ codes "m" ∷ codes "0" ∷ codes "1" ∷ [])
+    ∷ end_entry
+    ∷ []
+unfolding entry_of
+told_lines = refl
+
+lines_of_no_form : map (entry_of One) (codes "metric 1 1 1 0 0" ∷ codes "metric" ∷ codes "atom" ∷ codes "atom A" ∷ codes "atom A 0 0 0 0" ∷ codes "atom 1 0 0 0" ∷ codes "end end" ∷ codes "kind vector axial" ∷ codes "Metric 1 1 1 0 0 0" ∷ [])
+    ≡ other_entry ∷ other_entry ∷ other_entry ∷ other_entry ∷ other_entry ∷ other_entry ∷ other_entry ∷ other_entry ∷ other_entry ∷ []
+unfolding entry_of
+lines_of_no_form = refl
+
+versions : map version_of (codes "magcell 1" ∷ codes " magcell\t1 " ∷ codes "magcell 2" ∷ codes "magcell 1 1" ∷ codes "magcell1" ∷ codes "# magcell 1" ∷ codes "" ∷ []) ≡ Some One ∷ Some One ∷ None ∷ None ∷ None ∷ None ∷ None ∷ []
+unfolding version_of
+versions = refl
 
 -- the 513th atom line
 too_many : fault_after (codes "magcell 1" ∷ replicate 512 (codes "atom A 0 0 0")) (codes "atom A 0 0 0") ≡ Some TooManyAtoms
-unfolding cell_fault judged later_fault contents is_skipped is_heading has_bad_byte is_metric_line is_atom_line is_end_line number_words is_metric_in_range is_positive are_positions_in_range are_moments_in_range positions moments same_place gcd lcm word_fault number_fault number_value lowest
+unfolding cell_fault heading_fault later_fault metric_fault atom_fault place_fault end_fault state_after version_of entry_of has_bad_byte is_metric_in_range is_positive are_positions_in_range are_moments_in_range positions moments same_place gcd lcm word_fault number_fault number_value lowest
 too_many = refl

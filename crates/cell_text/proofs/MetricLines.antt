@@ -1,19 +1,26 @@
 -- Metric lines: the least scale, the range, and the metric tensor in units of 1/scale.
-use Rattle.std.proofs.Common.{◌≡◌, ℕ, ◌<◌, ◌≤◌, Bool, true, false, List, refl, sym, ap, subst, ◌∙◌, arith}
-use Rattle.std.specs.Prelude.{◌&&◌, nat_le, ℤ, unsigned_abs}
+use Rattle.std.proofs.Common.{◌≡◌, ℕ, zero, suc, ◌/◌, ◌<◌, ◌≤◌, Bool, true, false, List, [], ◌∷◌, ◌++◌, refl, sym, ap, subst, ◌∙◌, arith, Option, None}
+use Rattle.std.specs.Prelude.{◌&&◌, nat_le, ℤ, pos, unsigned_abs, MatchOption}
+use Rattle.std.proofs.Math.Bool.{and-false}
+use Rattle.std.proofs.lemmas.Int.{unsigned_abs-mul}
 use Rattle.std.specs.List.{list_all}
 use Rattle.std.proofs.lemmas.Bool.{le-leb, lt-leb, leb-true, and_parts}
+use Rattle.std.proofs.lemmas.List.Folds.{list_all-append}
 use Rattle.ring.specs.Size.{AtMost}
 use Rattle.numbers.specs.Gcd.{lcm}
-use Rattle.cell_text.specs.declared.metric.MetricLine.{MetricLine}
+use Rattle.cell_text.specs.declared.three.ThreeNumbers.{ThreeNumbers}
 use Rattle.numbers.specs.Fraction.{Fraction}
 use Rattle.plain_text.specs.NumberWords.{common_denominator, scaled}
-use Rattle.cell_text.specs.Entries.{metric_values, metric_of, is_metric_in_range, is_billion}
+use Rattle.cell_text.specs.Entries.{nothing, number_at, scaled_tensor, metric_of, is_metric_in_range, is_billion}
+use Rattle.cell_text.specs.Views.{numbers_view}
 use Rattle.plain_text.specs.Views.{Grown}
-use Rattle.cell_text.specs.Readers.{fractions, scaled_tensor}
 use Rattle.plain_text.proofs.Multiples.{lcm-positive, lcm-grows_left, past_one}
 
 -- ---- the least scale of six numbers
+
+-- the six numbers
+abbrev pub all_six : ThreeNumbers → ThreeNumbers → List Fraction
+all_six m p = numbers_view m ++ numbers_view p
 
 grow3 : (d x y z bound : ℕ) → 0 < d → 0 < x → 0 < y → 0 < z → bound < d → bound < lcm (lcm (lcm d x) y) z
 grow3 d x y z bound hd hx hy hz h = past_one d x y z bound hd hx hy hz (omega (arith, lcm-grows_left d x hd hx))
@@ -22,66 +29,66 @@ lcm3-positive : (x y z : ℕ) → 0 < x → 0 < y → 0 < z → 0 < lcm (lcm (lc
 lcm3-positive x y z hx hy hz = lcm-positive (lcm (lcm 1 x) y) z (lcm-positive (lcm 1 x) y (lcm-positive 1 x (omega arith) hx) hy) hz
 
 -- where three of the denominators pass the bound, all six do
-pub past_half : (m : MetricLine) → 1000000000 < lcm (lcm (lcm 1 m.aa.den) m.bb.den) m.cc.den → 1000000000 < common_denominator (fractions m)
-past_half m h =
-    grow3 (lcm (lcm (lcm 1 m.aa.den) m.bb.den) m.cc.den) m.bc.den m.ac.den m.ab.den 1000000000 (lcm3-positive m.aa.den m.bb.den m.cc.den m.aa.positive m.bb.positive m.cc.positive) m.bc.positive m.ac.positive m.ab.positive h
+pub past_half : (m p : ThreeNumbers) → 1000000000 < lcm (lcm (lcm 1 m.a.den) m.b.den) m.c.den → 1000000000 < common_denominator (all_six m p)
+past_half m p h =
+    grow3 (lcm (lcm (lcm 1 m.a.den) m.b.den) m.c.den) p.a.den p.b.den p.c.den 1000000000 (lcm3-positive m.a.den m.b.den m.c.den m.a.positive m.b.positive m.c.positive) p.a.positive p.b.positive p.c.positive h
 
-pub past_whole : (m : MetricLine) (half : ℕ) → Grown 1 m.aa.den m.bb.den m.cc.den half → 1000000000 < lcm (lcm (lcm half m.bc.den) m.ac.den) m.ab.den → 1000000000 < common_denominator (fractions m)
-past_whole m half g h = rw (← g.is) h
+pub past_whole : (m p : ThreeNumbers) (half : ℕ) → Grown 1 m.a.den m.b.den m.c.den half → 1000000000 < lcm (lcm (lcm half p.a.den) p.b.den) p.c.den → 1000000000 < common_denominator (all_six m p)
+past_whole m p half g h = rw (← g.is) h
 
-pub scale_grown : (m : MetricLine) (half scale : ℕ) → Grown 1 m.aa.den m.bb.den m.cc.den half → Grown half m.bc.den m.ac.den m.ab.den scale → scale ≡ common_denominator (fractions m)
-scale_grown m half scale g k = k.is ∙ ap (λ (d : ℕ). lcm (lcm (lcm d m.bc.den) m.ac.den) m.ab.den) g.is
+pub scale_grown : (m p : ThreeNumbers) (half scale : ℕ) → Grown 1 m.a.den m.b.den m.c.den half → Grown half p.a.den p.b.den p.c.den scale → scale ≡ common_denominator (all_six m p)
+scale_grown m p half scale g k = k.is ∙ ap (λ (d : ℕ). lcm (lcm (lcm d p.a.den) p.b.den) p.c.den) g.is
 
 -- ---- the range
-
-abbrev range_of : List Fraction → Bool
-range_of fs = nat_le (common_denominator fs) 1000000000 && list_all (λ f. is_billion (scaled (common_denominator fs) f)) fs
 
 past_bound : (d : ℕ) (b : Bool) → 1000000000 < d → (nat_le d 1000000000 && b) ≡ false
 past_bound d b h = rw (lt-leb d 1000000000 h) refl
 
 -- the scale passes the bound
-pub past_scale : (line : List ℕ) (fs : List Fraction) → fs ≡ metric_values line → 1000000000 < common_denominator fs → is_metric_in_range line ≡ false
+pub past_scale : (fs : List Fraction) → 1000000000 < common_denominator fs → is_metric_in_range fs ≡ false
 unfolding is_metric_in_range
-past_scale line fs e h = subst (λ (gs : List Fraction). range_of gs ≡ false) e (past_bound (common_denominator fs) _ h)
+past_scale fs h = past_bound (common_denominator fs) _ h
 
 within_bound : (d : ℕ) (b : Bool) → d ≤ 1000000000 → (nat_le d 1000000000 && b) ≡ b
 within_bound d b h = rw (le-leb d 1000000000 h) refl
 
 -- the scale is within the bound
-pub within : (line : List ℕ) (fs : List Fraction) (d : ℕ) (b : Bool) → fs ≡ metric_values line → d ≡ common_denominator fs → d ≤ 1000000000 → b ≡ list_all (λ f. is_billion (scaled d f)) fs → is_metric_in_range line ≡ b
+within : (fs : List Fraction) (d : ℕ) → d ≡ common_denominator fs → d ≤ 1000000000 → is_metric_in_range fs ≡ list_all (λ f. is_billion (scaled d f)) fs
 unfolding is_metric_in_range
-within line fs d b e s h p =
-    let here : (nat_le d 1000000000 && list_all (λ f. is_billion (scaled d f)) fs) ≡ b = within_bound d _ h ∙ sym p in
-    let there : range_of fs ≡ b = subst (λ (c : ℕ). (nat_le c 1000000000 && list_all (λ f. is_billion (scaled c f)) fs) ≡ b) s here in
-    subst (λ (gs : List Fraction). range_of gs ≡ b) e there
+within fs d s h =
+    subst (λ (c : ℕ). (nat_le c 1000000000 && list_all (λ f. is_billion (scaled c f)) fs) ≡ list_all (λ f. is_billion (scaled d f)) fs) s (within_bound d _ h)
 
--- the metric tensor of the line
-pub tensor_is : (line : List ℕ) (fs : List Fraction) (d : ℕ) → fs ≡ metric_values line → d ≡ common_denominator fs → scaled_tensor d fs ≡ metric_of line
-tensor_is line fs d e s = ap (λ (c : ℕ). scaled_tensor c fs) s ∙ ap (λ (gs : List Fraction). scaled_tensor (common_denominator gs) gs) e
+-- the six are in range where the first three and the last three are
+pub six_within : (m p : ThreeNumbers) (d : ℕ) → d ≡ common_denominator (all_six m p) → d ≤ 1000000000 → is_metric_in_range (all_six m p) ≡ (list_all (λ f. is_billion (scaled d f)) (numbers_view m) && list_all (λ f. is_billion (scaled d f)) (numbers_view p))
+six_within m p d s h = within (all_six m p) d s h ∙ list_all-append (λ f. is_billion (scaled d f)) (numbers_view m) (numbers_view p)
+
+pub first_out : (m p : ThreeNumbers) (d : ℕ) → d ≡ common_denominator (all_six m p) → d ≤ 1000000000 → list_all (λ f. is_billion (scaled d f)) (numbers_view m) ≡ false → is_metric_in_range (all_six m p) ≡ false
+first_out m p d s h e = six_within m p d s h ∙ rw e refl
+
+pub last_out : (m p : ThreeNumbers) (d : ℕ) → d ≡ common_denominator (all_six m p) → d ≤ 1000000000 → list_all (λ f. is_billion (scaled d f)) (numbers_view p) ≡ false → is_metric_in_range (all_six m p) ≡ false
+last_out m p d s h e = six_within m p d s h ∙ rw e (and-false (list_all (λ f. is_billion (scaled d f)) (numbers_view m)))
+
+pub all_in : (m p : ThreeNumbers) (d : ℕ) → d ≡ common_denominator (all_six m p) → d ≤ 1000000000 → list_all (λ f. is_billion (scaled d f)) (numbers_view m) ≡ true → list_all (λ f. is_billion (scaled d f)) (numbers_view p) ≡ true → is_metric_in_range (all_six m p) ≡ true
+all_in m p d s h e g = six_within m p d s h ∙ rw (e, g) refl
+
+-- an answer that is none
+pub none_is : {X : Type 0} (r : Option X) (P : Type 0) (Q : X → Type 0) → r ≡ None → P → MatchOption r P Q
+none_is {X = X} r P Q e p = subst (λ (o : Option X). MatchOption o P Q) (sym e) p
+
+-- the metric tensor with the least scale
+pub tensor_is : (fs : List Fraction) (d : ℕ) → d ≡ common_denominator fs → scaled_tensor d fs ≡ metric_of fs
+tensor_is fs d s = ap (λ (c : ℕ). scaled_tensor c fs) s
 
 pub at_most : (z : ℤ) → is_billion z ≡ true → AtMost 1000000000 z
 at_most z e = record { size = leb-true (unsigned_abs z) 1000000000 e }
 
--- of three that are, each is, and of six
-pub three : (x y z : Bool) → (x && (y && (z && true))) ≡ true → (x ≡ true) × (y ≡ true) × (z ≡ true)
-three x y z e =
-    let p = and_parts x (y && (z && true)) e in
-    let q = and_parts y (z && true) p.1 in
-    (p.0, q.0, (and_parts z true q.1).0)
+nothing_billion : (d : ℕ) → is_billion (scaled d nothing) ≡ true
+nothing_billion d =
+    let size = unsigned_abs-mul (pos 0) (pos (d / 1)) in
+    le-leb (unsigned_abs (scaled d nothing)) 1000000000 (omega (arith, size))
 
-pub record AllSix (u v w x y z : Bool) : Type 0 where
-  pub aa : u ≡ true
-  pub bb : v ≡ true
-  pub c : w ≡ true
-  pub bc : x ≡ true
-  pub ac : y ≡ true
-  pub ab : z ≡ true
-
-pub six : (u v w x y z : Bool) → (u && (v && (w && (x && (y && (z && true)))))) ≡ true → AllSix u v w x y z
-six u v w x y z e =
-    let p = and_parts u _ e in
-    let q = and_parts v _ p.1 in
-    let r = and_parts w _ q.1 in
-    let s = three x y z r.1 in
-    record { aa = p.0; bb = q.0; c = r.0; bc = s.0; ac = s.1; ab = s.2 }
+-- of numbers that are in range, each is
+pub number_billion : (d : ℕ) (fs : List Fraction) (i : ℕ) → list_all (λ f. is_billion (scaled d f)) fs ≡ true → is_billion (scaled d (number_at fs i)) ≡ true
+number_billion d [] i e = nothing_billion d
+number_billion d (f ∷ fs) zero e = (and_parts (is_billion (scaled d f)) _ e).0
+number_billion d (f ∷ fs) (suc i) e = number_billion d fs i (and_parts (is_billion (scaled d f)) _ e).1

@@ -1,36 +1,17 @@
 -- What holds behind every line of a text in which no line breaks a rule.
---   later_faults held line   the rules of a later line, in order
---   text_holds               what each line keeps holds of the contents of all lines
---   text_ends                the lines have an `end`
-use Rattle.std.proofs.Common.{◌≡◌, ℕ, zero, suc, ◌+◌, Bool, true, false, List, [], ◌∷◌, ◌++◌, length, map, get_or, Option, Some, None, refl, sym, subst, append_assoc, append-nil}
-use Rattle.std.specs.Prelude.{◌&&◌, ◌||◌, not, ◌==◌, nat_le, if◌then◌else◌}
+--   text_holds   what each entry keeps holds of the contents of all lines
+--   text_ends    the lines have an `end`
+use Rattle.std.proofs.Common.{◌≡◌, ℕ, zero, suc, ◌+◌, ◌<◌, Bool, true, false, List, [], ◌∷◌, ◌++◌, length, map, get_or, Option, Some, None, refl, sym, subst, append_assoc, append-nil, arith}
+use Rattle.std.specs.Prelude.{not, ◌==◌, nat_le}
+use Rattle.cell_text.specs.declared.version.Version.{Version}
 use Rattle.cell_text.specs.declared.fault.CellFault.{CellFault}
-use Rattle.cell_text.specs.declared.fault.CellFault.TheVariants.{BadByte, BadLine, MetricTwice, MetricMissing, MetricRange, NotPositive, PositionRange, MomentRange, TooManyAtoms, NoAtom, NoEnd, AfterEnd}
+use Rattle.cell_text.specs.declared.fault.CellFault.TheVariants.{BadByte, MetricTwice, MetricMissing, MetricRange, NotPositive, PositionRange, MomentRange, TooManyAtoms, NoAtom, NoEnd, AfterEnd}
 use Rattle.plain_text.specs.Text.{lines, has_bad_byte}
 use Rattle.plain_text.specs.FirstFaults.{when, first_of}
-use Rattle.cell_text.specs.Lines.{word_fault, is_metric_line, is_atom_line, is_end_line, is_skipped, number_words}
-use Rattle.cell_text.specs.Entries.{Contents, atom_of, metric_of, contents, is_metric_in_range, is_positive, are_positions_in_range, are_moments_in_range}
-use Rattle.cell_text.specs.Rules.{same_place, later_fault, judged, fault_after, fault_at_end, numbered, first_fault, cell_fault}
-use Rattle.cell_text.specs.Views.{with_line}
-use Rattle.cell_text.proofs.Judging.{heading-other, heading-passed, skipped-other, with-other, contents-more}
-
--- the rules of a later line, in order
-abbrev pub later_faults : Contents → List ℕ → List (Option CellFault)
-later_faults before line =
-    when (has_bad_byte line) BadByte
-    ∷ when before.ended AfterEnd
-    ∷ when (not (is_metric_line line || is_atom_line line || is_end_line line)) BadLine
-    ∷ when (is_metric_line line && not (length before.metrics == 0)) MetricTwice
-    ∷ when (is_atom_line line && nat_le 512 (length before.atoms)) TooManyAtoms
-    ∷ first_of (map word_fault (number_words line))
-    ∷ when (is_metric_line line && not (is_metric_in_range line)) MetricRange
-    ∷ when (is_metric_line line && not (is_positive (metric_of line).entries)) NotPositive
-    ∷ when (is_atom_line line && not (are_positions_in_range (before.atoms ++ atom_of line ∷ []))) PositionRange
-    ∷ when (is_atom_line line && not (are_moments_in_range (before.atoms ++ atom_of line ∷ []))) MomentRange
-    ∷ (if is_atom_line line then same_place before.atoms (atom_of line) else None)
-    ∷ when (is_end_line line && length before.metrics == 0) MetricMissing
-    ∷ when (is_end_line line && length before.atoms == 0) NoAtom
-    ∷ []
+use Rattle.cell_text.specs.Lines.{word_fault, Entry, skipped, metric_entry, atom_entry, end_entry, other_entry, entry_of}
+use Rattle.cell_text.specs.Entries.{AtomLine, Contents, State, with_entry, next_state, with_line, state_after, contents, values, atom_of, metric_of, is_metric_in_range, is_positive, are_positions_in_range, are_moments_in_range}
+use Rattle.cell_text.specs.Rules.{same_place, metric_fault, place_fault, atom_fault, end_fault, entry_fault, later_fault, judged_by, judged, fault_after, fault_at_end, numbered, first_fault, cell_fault}
+use Rattle.cell_text.proofs.Judging.{IsEntry, entry_is, state_after-more}
 
 -- where there is no first fault, there is none
 pub all_none : {X : Type 0} (fs : List (Option X)) (i : ℕ) → first_of fs ≡ None → get_or fs i None ≡ None
@@ -39,21 +20,80 @@ all_none (None ∷ fs) zero e = refl
 all_none (None ∷ fs) (suc i) e = all_none fs i e
 all_none (Some f ∷ fs) i e = absurd cc
 
--- a rule of some lines that is kept
-pub kept : (b r : Bool) (f : CellFault) → when (b && not r) f ≡ None → b ≡ true → r ≡ true
-kept true true f e h = refl
-kept true false f e h = absurd cc
-kept false r f e h = absurd cc
+-- a rule that is kept
+pub kept : (r : Bool) (f : CellFault) → when (not r) f ≡ None → r ≡ true
+kept true f e = refl
+kept false f e = absurd cc
 
--- the metric tensor of a metric line is within its range
-pub metric_fits : (held : Contents) (line : List ℕ) → later_fault held line ≡ None → is_metric_line line ≡ true → is_metric_in_range line ≡ true
-unfolding later_fault
-metric_fits held line e = kept (is_metric_line line) (is_metric_in_range line) MetricRange (all_none (later_faults held line) 6 e)
+-- ---- the rules of metric lines, atom lines and end lines, in order
 
--- moments are within their range with that of an atom line
-pub moments_fit : (held : Contents) (line : List ℕ) → later_fault held line ≡ None → is_atom_line line ≡ true → are_moments_in_range (held.atoms ++ atom_of line ∷ []) ≡ true
+abbrev metric_faults : Contents → List (List ℕ) → List (Option CellFault)
+metric_faults held ws =
+    when (not (length held.metrics == 0)) MetricTwice
+    ∷ first_of (map word_fault ws)
+    ∷ when (not (is_metric_in_range (values ws))) MetricRange
+    ∷ when (not (is_positive (metric_of (values ws)).entries)) NotPositive
+    ∷ []
+
+abbrev place_faults : Contents → AtomLine → List (Option CellFault)
+place_faults held a =
+    when (not (are_positions_in_range (held.atoms ++ a ∷ []))) PositionRange
+    ∷ when (not (are_moments_in_range (held.atoms ++ a ∷ []))) MomentRange
+    ∷ same_place held.atoms a
+    ∷ []
+
+abbrev atom_faults : Contents → List ℕ → List (List ℕ) → List (Option CellFault)
+atom_faults held name ws =
+    when (nat_le 512 (length held.atoms)) TooManyAtoms
+    ∷ first_of (map word_fault ws)
+    ∷ place_fault held (atom_of name (values ws))
+    ∷ []
+
+abbrev end_faults : Contents → List (Option CellFault)
+end_faults held = when (length held.metrics == 0) MetricMissing ∷ when (length held.atoms == 0) NoAtom ∷ []
+
+-- the words of a metric line are numbers
+pub metric_numbers : (held : Contents) (ws : List (List ℕ)) → metric_fault held ws ≡ None → first_of (map word_fault ws) ≡ None
+unfolding metric_fault
+metric_numbers held ws e = all_none (metric_faults held ws) 1 e
+
+-- its metric tensor is within its range
+pub metric_fits : (held : Contents) (ws : List (List ℕ)) → metric_fault held ws ≡ None → is_metric_in_range (values ws) ≡ true
+unfolding metric_fault
+metric_fits held ws e = kept (is_metric_in_range (values ws)) MetricRange (all_none (metric_faults held ws) 2 e)
+
+-- the words of an atom line are numbers
+pub atom_numbers : (held : Contents) (name : List ℕ) (ws : List (List ℕ)) → atom_fault held name ws ≡ None → first_of (map word_fault ws) ≡ None
+unfolding atom_fault
+atom_numbers held name ws e = all_none (atom_faults held name ws) 1 e
+
+-- moments are within their range with its moment
+pub moments_fit : (held : Contents) (name : List ℕ) (ws : List (List ℕ)) → atom_fault held name ws ≡ None → are_moments_in_range (held.atoms ++ atom_of name (values ws) ∷ []) ≡ true
+unfolding atom_fault place_fault
+moments_fit held name ws e =
+    let a = atom_of name (values ws) in
+    kept (are_moments_in_range (held.atoms ++ a ∷ [])) MomentRange (all_none (place_faults held a) 1 (all_none (atom_faults held name ws) 2 e))
+
+not_missing : (n : ℕ) → when (n == 0) MetricMissing ≡ None → 0 < n
+not_missing zero e = absurd cc
+not_missing (suc n) e = omega arith
+
+-- an end line stands behind a metric line
+pub end_behind_metric : (held : Contents) → end_fault held ≡ None → 0 < length held.metrics
+unfolding end_fault
+end_behind_metric held e = not_missing (length held.metrics) (all_none (end_faults held) 0 e)
+
+abbrev later_faults : Contents → List ℕ → Entry → List (Option CellFault)
+later_faults held line entry = when (has_bad_byte line) BadByte ∷ when held.ended AfterEnd ∷ entry_fault held entry ∷ []
+
+-- a later line that breaks no rule breaks none of its form
+later_passed : (held : Contents) (line : List ℕ) (entry : Entry) → later_fault held line entry ≡ None → entry_fault held entry ≡ None
 unfolding later_fault
-moments_fit held line e = kept (is_atom_line line) (are_moments_in_range (held.atoms ++ atom_of line ∷ [])) MomentRange (all_none (later_faults held line) 9 e)
+later_passed held line skipped e = refl
+later_passed held line (metric_entry ws) e = all_none (later_faults held line (metric_entry ws)) 2 e
+later_passed held line (atom_entry name ws) e = all_none (later_faults held line (atom_entry name ws)) 2 e
+later_passed held line end_entry e = all_none (later_faults held line end_entry) 2 e
+later_passed held line other_entry e = all_none (later_faults held line other_entry) 2 e
 
 -- ---- all lines
 
@@ -62,15 +102,13 @@ abbrev after_line : List (List ℕ) → List ℕ → List (List ℕ) → Option 
 after_line before line later (Some fault) = Some (length before + 1, fault)
 after_line before line later None = first_fault (before ++ line ∷ []) later
 
-module _ (Holds : Contents → Type 0) (step : (held : Contents) (line : List ℕ) → later_fault held line ≡ None → Holds held → Holds (with_line held line)) where
-  line_holds : (n : ℕ) (held : Contents) (line : List ℕ) → judged n held line ≡ None → Holds held → Holds (with_line held line)
-  unfolding judged
-  line_holds zero held line e h = subst Holds (sym (with-other held line (heading-other line (heading-passed line e)))) h
-  line_holds (suc n) held line e h = by (is_skipped line) refl e
-    where
-      by : (b : Bool) → is_skipped line ≡ b → (if b then None else later_fault held line) ≡ None → Holds (with_line held line)
-      by true s f = subst Holds (sym (with-other held line (skipped-other line s))) h
-      by false s f = step held line f h
+module _ (Holds : Contents → Type 0) (step : (held : Contents) (entry : Entry) → IsEntry entry → entry_fault held entry ≡ None → Holds held → Holds (with_entry held entry)) where
+  next_holds : (version : Option Version) (held : Contents) (line : List ℕ) → judged_by version held line ≡ None → Holds held → Holds (next_state version held line).held
+  next_holds None held line e h = h
+  next_holds (Some version) held line e h = step held (entry_of version line) (entry_is version line) (later_passed held line (entry_of version line) e) h
+
+  line_holds : (s : State) (line : List ℕ) → judged s line ≡ None → Holds s.held → Holds (with_line s line).held
+  line_holds s line e h = next_holds s.version s.held line e h
 
   lines_hold : (before later : List (List ℕ)) → first_fault before later ≡ None → Holds (contents before) → Holds (contents (before ++ later))
   lines_hold before [] e h = subst (λ (ls : List (List ℕ)). Holds (contents ls)) (sym (append-nil before)) h
@@ -83,9 +121,9 @@ module _ (Holds : Contents → Type 0) (step : (held : Contents) (line : List �
       by rest (Some f) judged_so k = absurd cc
       by rest None judged_so k =
           subst (λ (ls : List (List ℕ)). Holds (contents ls)) (append_assoc before (line ∷ []) later)
-          (rest k (subst Holds (sym (contents-more before line)) (line_holds (length before) (contents before) line judged_so h)))
+          (rest k (subst (λ (s : State). Holds s.held) (sym (state_after-more before line)) (line_holds (state_after before) line judged_so h)))
 
-  -- what holds of no lines, and behind each line where it did before, holds of all
+  -- what holds of no lines, and behind each entry where it did before, holds of all
   pub text_holds : Holds (contents []) → (text : List ℕ) → cell_fault text ≡ None → Holds (contents (lines text))
   unfolding cell_fault
   text_holds none text e = lines_hold [] (lines text) e none
@@ -96,7 +134,7 @@ unmarked n (Some f) e = absurd cc
 
 ended_of : (before : List (List ℕ)) → fault_at_end before ≡ None → (contents before).ended ≡ true
 ended_of [] e = absurd cc
-ended_of (first ∷ before) e = kept true (contents (first ∷ before)).ended NoEnd e refl
+ended_of (first ∷ before) e = kept (contents (first ∷ before)).ended NoEnd e
 
 lines_end : (before later : List (List ℕ)) → first_fault before later ≡ None → (contents (before ++ later)).ended ≡ true
 lines_end before [] e = ended_of (before ++ []) (subst (λ (ls : List (List ℕ)). fault_at_end ls ≡ None) (sym (append-nil before)) (unmarked (length before + 1) (fault_at_end before) e))

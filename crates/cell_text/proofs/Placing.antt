@@ -13,9 +13,9 @@ use Rattle.std.proofs.lemmas.List.Folds.{list_all-append}
 use Rattle.plain_text.specs.NumberWords.{common_denominator}
 use Rattle.plain_text.specs.FirstFaults.{when, or_else}
 use Rattle.numbers.specs.Gcd.{lcm}
-use Rattle.cell_text.specs.Entries.{AtomLine, moments, positions, is_same_place}
-use Rattle.cell_text.specs.Rules.{same_place, same_place_from}
-use Rattle.cell_text.specs.Views.{atom_view, atom_faults, State, AreApart}
+use Rattle.cell_text.specs.Entries.{AtomLine, State, moments, positions, is_same_place}
+use Rattle.cell_text.specs.Rules.{same_place, same_place_from, place_fault}
+use Rattle.cell_text.specs.Views.{atom_view, AreApart}
 use Rattle.plain_text.specs.Views.{Grown}
 use Rattle.cell_text.specs.Readers.{state_of, IsReader}
 use Rattle.cell_text.proofs.Atoms.{is_billion_by, positions_more, moments_more, positions_fit, positions_past, moments_are, moments_past, faults-position, faults-moment, faults-place}
@@ -24,42 +24,46 @@ use Rattle.cell_text.proofs.Atoms.{is_billion_by, positions_more, moments_more, 
 pub range_held : (r : Inside) (s : State) (a : AtomLine) (k : ℕ) → state_of r ≡ s → (is_billion_by k (moments (map atom_view r.atoms.items ++ a ∷ [])) ≡ is_billion_by k (moments (s.held.atoms ++ a ∷ [])))
 range_held r s a k v = ap (λ (t : State). is_billion_by k (moments (t.held.atoms ++ a ∷ []))) v
 
-pub place-position : (r : Inside) (s : State) (a : CodeAtom) → IsReader r → state_of r ≡ s → 1000000 < lcm (lcm (lcm r.n a.x.den) a.y.den) a.z.den → atom_faults s.held (atom_view a) ≡ Some PositionRange
+pub place-position : (r : Inside) (s : State) (a : CodeAtom) → IsReader r → state_of r ≡ s → 1000000 < lcm (lcm (lcm r.n a.position.a.den) a.position.b.den) a.position.c.den → place_fault s.held (atom_view a) ≡ Some PositionRange
 place-position r s a h v over =
-    subst (λ (t : State). atom_faults t.held (atom_view a) ≡ Some PositionRange) v (faults-position (state_of r).held (atom_view a) (positions_past (map atom_view r.atoms.items) (atom_view a) r.n h.n_is over))
+    subst (λ (t : State). place_fault t.held (atom_view a) ≡ Some PositionRange) v (faults-position (state_of r).held (atom_view a) (positions_past (map atom_view r.atoms.items) (atom_view a) r.n h.n_is over))
 
 -- after the positions fit
 pub record Fits (r : Inside) (a : CodeAtom) (n k : ℕ) : Type 0 where
-  pub n_is : Grown r.n a.x.den a.y.den a.z.den n
+  pub n_is : Grown r.n a.position.a.den a.position.b.den a.position.c.den n
   pub n_within : n ≤ 1000000
-  pub k_is : Grown r.k a.ma.den a.mb.den a.mc.den k
+  pub k_is : Grown r.k a.moment.a.den a.moment.b.den a.moment.c.den k
   pub k_within : k ≤ 1000000
 
-pub place-moment : (r : Inside) (s : State) (a : CodeAtom) (n : ℕ) → IsReader r → state_of r ≡ s → Grown r.n a.x.den a.y.den a.z.den n → n ≤ 1000000 → 1000000 < lcm (lcm (lcm r.k a.ma.den) a.mb.den) a.mc.den → atom_faults s.held (atom_view a) ≡ Some MomentRange
+pub place-moment : (r : Inside) (s : State) (a : CodeAtom) (n : ℕ) → IsReader r → state_of r ≡ s → Grown r.n a.position.a.den a.position.b.den a.position.c.den n → n ≤ 1000000 → 1000000 < lcm (lcm (lcm r.k a.moment.a.den) a.moment.b.den) a.moment.c.den → place_fault s.held (atom_view a) ≡ Some MomentRange
 place-moment r s a n h v g w over =
-    subst (λ (t : State). atom_faults t.held (atom_view a) ≡ Some MomentRange) v (faults-moment (state_of r).held (atom_view a) (positions_fit (map atom_view r.atoms.items) (atom_view a) r.n h.n_is (rw (← g.is) w)) (moments_past (map atom_view r.atoms.items) (atom_view a) r.k h.k_is over))
+    subst (λ (t : State). place_fault t.held (atom_view a) ≡ Some MomentRange) v (faults-moment (state_of r).held (atom_view a) (positions_fit (map atom_view r.atoms.items) (atom_view a) r.n h.n_is (rw (← g.is) w)) (moments_past (map atom_view r.atoms.items) (atom_view a) r.k h.k_is over))
 
-pub place-wide : (r : Inside) (s : State) (a : CodeAtom) (n k : ℕ) → IsReader r → state_of r ≡ s → Fits r a n k → is_billion_by k (moments (s.held.atoms ++ atom_view a ∷ [])) ≡ false → atom_faults s.held (atom_view a) ≡ Some MomentRange
+pub place-wide : (r : Inside) (s : State) (a : CodeAtom) (n k : ℕ) → IsReader r → state_of r ≡ s → Fits r a n k → is_billion_by k (moments (s.held.atoms ++ atom_view a ∷ [])) ≡ false → place_fault s.held (atom_view a) ≡ Some MomentRange
 place-wide r s a n k h v f wide =
-    subst (λ (t : State). atom_faults t.held (atom_view a) ≡ Some MomentRange) v (faults-moment (state_of r).held (atom_view a)
+    subst (λ (t : State). place_fault t.held (atom_view a) ≡ Some MomentRange) v (faults-moment (state_of r).held (atom_view a)
     (positions_fit (map atom_view r.atoms.items) (atom_view a) r.n h.n_is (rw (← f.n_is.is) f.n_within))
     (moments_are (map atom_view r.atoms.items) (atom_view a) r.k k false h.k_is f.k_is.is f.k_within (sym (range_held r s (atom_view a) k v ∙ wide))))
 
-pub place-rest : (r : Inside) (s : State) (a : CodeAtom) (n k : ℕ) (fault : Option CellFault) → IsReader r → state_of r ≡ s → Fits r a n k → is_billion_by k (moments (s.held.atoms ++ atom_view a ∷ [])) ≡ true → same_place (map atom_view r.atoms.items) (atom_view a) ≡ fault → atom_faults s.held (atom_view a) ≡ fault
+pub place-rest : (r : Inside) (s : State) (a : CodeAtom) (n k : ℕ) (fault : Option CellFault) → IsReader r → state_of r ≡ s → Fits r a n k → is_billion_by k (moments (s.held.atoms ++ atom_view a ∷ [])) ≡ true → same_place (map atom_view r.atoms.items) (atom_view a) ≡ fault → place_fault s.held (atom_view a) ≡ fault
 place-rest r s a n k fault h v f fit same =
-    subst (λ (t : State). atom_faults t.held (atom_view a) ≡ fault) v (faults-place (state_of r).held (atom_view a) fault
+    subst (λ (t : State). place_fault t.held (atom_view a) ≡ fault) v (faults-place (state_of r).held (atom_view a) fault
     (positions_fit (map atom_view r.atoms.items) (atom_view a) r.n h.n_is (rw (← f.n_is.is) f.n_within))
     (moments_are (map atom_view r.atoms.items) (atom_view a) r.k k true h.k_is f.k_is.is f.k_within (sym (range_held r s (atom_view a) k v ∙ fit))) same)
 
-pub placed_n : (xs ys : List CodeAtom) (a : CodeAtom) (old n : ℕ) → old ≡ common_denominator (positions (map atom_view xs)) → Grown old a.x.den a.y.den a.z.den n → ys ≡ xs ++ a ∷ [] → n ≡ common_denominator (positions (map atom_view ys))
+pub placed_n : (xs ys : List CodeAtom) (a : CodeAtom) (old n : ℕ) → old ≡ common_denominator (positions (map atom_view xs)) → Grown old a.position.a.den a.position.b.den a.position.c.den n → ys ≡ xs ++ a ∷ [] → n ≡ common_denominator (positions (map atom_view ys))
 placed_n xs ys a old n e g same =
     let there : common_denominator (positions (map atom_view ys)) ≡ common_denominator (positions (map atom_view xs ++ atom_view a ∷ [])) = ap (λ (zs : List AtomLine). common_denominator (positions zs)) (ap (map atom_view) same ∙ map-append atom_view xs (a ∷ [])) in
     g.is ∙ sym (there ∙ positions_more (map atom_view xs) (atom_view a) ∙ rw (← e) refl)
 
-pub placed_k : (xs ys : List CodeAtom) (a : CodeAtom) (old k : ℕ) → old ≡ common_denominator (moments (map atom_view xs)) → Grown old a.ma.den a.mb.den a.mc.den k → ys ≡ xs ++ a ∷ [] → k ≡ common_denominator (moments (map atom_view ys))
+pub placed_k : (xs ys : List CodeAtom) (a : CodeAtom) (old k : ℕ) → old ≡ common_denominator (moments (map atom_view xs)) → Grown old a.moment.a.den a.moment.b.den a.moment.c.den k → ys ≡ xs ++ a ∷ [] → k ≡ common_denominator (moments (map atom_view ys))
 placed_k xs ys a old k e g same =
     let there : common_denominator (moments (map atom_view ys)) ≡ common_denominator (moments (map atom_view xs ++ atom_view a ∷ [])) = ap (λ (zs : List AtomLine). common_denominator (moments zs)) (ap (map atom_view) same ∙ map-append atom_view xs (a ∷ [])) in
     g.is ∙ sym (there ∙ moments_more (map atom_view xs) (atom_view a) ∙ rw (← e) refl)
+
+pub placed_moments : (r : Inside) (s : State) (ys : List CodeAtom) (a : CodeAtom) (k : ℕ) → state_of r ≡ s → is_billion_by k (moments (s.held.atoms ++ atom_view a ∷ [])) ≡ true → ys ≡ r.atoms.items ++ a ∷ [] → is_billion_by k (moments (map atom_view ys)) ≡ true
+placed_moments r s ys a k v h same =
+    ap (λ (zs : List AtomLine). is_billion_by k (moments zs)) (ap (map atom_view) same ∙ map-append atom_view r.atoms.items (a ∷ [])) ∙ range_held r s (atom_view a) k v ∙ h
 
 -- ---- no two at one position
 

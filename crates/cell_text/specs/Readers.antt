@@ -1,40 +1,24 @@
 -- What the reader's state stands for.
-use Rattle.std.specs.Prelude.{◌≡◌, ℕ, ◌<◌, ◌≤◌, List, [], ◌∷◌, map, length, get_or, true, pos}
+use Rattle.std.specs.Prelude.{◌≡◌, ◌<◌, ◌≤◌, List, [], ◌∷◌, map, length, true}
+use Rattle.std.specs.List.{list_all}
 use Rattle.std.specs.declared.option.Option.{Option}
 use Rattle.std.specs.declared.option.Option.TheVariants.{Some, None}
 use Rattle.crystal.specs.Views.{metric_of as tensor}
-use Rattle.numbers.specs.Fraction.{Fraction, fraction}
 use Rattle.plain_text.specs.NumberWords.{common_denominator, scaled}
-use Rattle.cell_text.specs.Entries.{ScaledMetric, positions, moments, symmetric, is_positive}
-use Rattle.plain_text.specs.Views.{fraction_of}
-use Rattle.cell_text.specs.Views.{atom_view, State, AreApart}
+use Rattle.cell_text.specs.Entries.{ScaledMetric, State, positions, moments, is_billion, is_positive}
+use Rattle.cell_text.specs.Views.{atom_view, AreApart}
 use Rattle.cell_text.specs.declared.scaled_metric.ScaledMetric.{ScaledMetric as CodeMetric}
-use Rattle.cell_text.specs.declared.metric.MetricLine.{MetricLine}
 use Rattle.cell_text.specs.declared.reader.Reader.TheInside.{Inside}
 
 abbrev pub metric_view : CodeMetric → ScaledMetric
 metric_view m = record { scale = m.scale; entries = tensor m.metric }
-
--- the six numbers
-abbrev pub fractions : MetricLine → List Fraction
-fractions m = fraction_of m.aa ∷ fraction_of m.bb ∷ fraction_of m.cc ∷ fraction_of m.bc ∷ fraction_of m.ac ∷ fraction_of m.ab ∷ []
-
-abbrev pub nothing : Fraction
-nothing = fraction (pos 0) (pos 1)
-
--- the metric tensor of six numbers in units of 1/d
-abbrev pub scaled_tensor : ℕ → List Fraction → ScaledMetric
-scaled_tensor d fs = record {
-  scale = d;
-  entries = symmetric (scaled d (get_or fs 0 nothing)) (scaled d (get_or fs 1 nothing)) (scaled d (get_or fs 2 nothing)) (scaled d (get_or fs 3 nothing)) (scaled d (get_or fs 4 nothing)) (scaled d (get_or fs 5 nothing));
-}
 
 abbrev pub metrics_of : Option CodeMetric → List ScaledMetric
 metrics_of None = []
 metrics_of (Some m) = metric_view m ∷ []
 
 abbrev pub state_of : Inside → State
-state_of r = record { count = r.count; held = record { metrics = metrics_of r.metric; atoms = map atom_view r.atoms.items; ended = r.ended } }
+state_of r = record { version = r.version; held = record { metrics = metrics_of r.metric; atoms = map atom_view r.atoms.items; ended = r.ended } }
 
 -- the metric tensor, where there is one, is positive
 abbrev pub IsPositiveIfThere : Option CodeMetric → Type 0
@@ -49,6 +33,7 @@ pub record IsReader (r : Inside) : Type 0 where
   pub k_positive : 0 < r.k
   pub n_within : r.n ≤ 1000000
   pub k_within : r.k ≤ 1000000
+  pub moments_within : list_all (λ m. is_billion (scaled r.k m)) (moments (map atom_view r.atoms.items)) ≡ true
   pub few : length r.atoms.items ≤ 512
   pub apart : AreApart (map atom_view r.atoms.items)
   pub positive : IsPositiveIfThere r.metric

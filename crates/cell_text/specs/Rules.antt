@@ -1,20 +1,22 @@
 -- The rules of the cell file `magcell 1`, and the first line that breaks one.
+--   entry_fault held e     the first rule that an entry breaks behind lines with these contents
 --   fault_after before l   the first rule that the line l breaks behind the lines before it
 --   fault_at_end before    what is wrong where the text ends behind these lines
 --   cell_fault text        the first line that breaks a rule, counted from 1, and which rule
 --   Tells first e          the error e names this first fault
 -- On a line the rules are tried in the order in which they stand here.
-use Rattle.std.specs.Prelude.{◌≡◌, ⊤, ℕ, zero, suc, ◌+◌, not, ◌==◌, ◌||◌, ◌&&◌, nat_le, List, [], ◌∷◌, ◌++◌, map, length, if◌then◌else◌}
+use Rattle.std.specs.Prelude.{◌≡◌, ⊤, ℕ, ◌+◌, Bool, true, false, not, is_none, ◌==◌, nat_le, List, [], ◌∷◌, ◌++◌, map, length, if◌then◌else◌}
 use Rattle.std.specs.declared.option.Option.{Option}
 use Rattle.std.specs.declared.option.Option.TheVariants.{Some, None}
+use Rattle.cell_text.specs.declared.version.Version.{Version}
 use Rattle.cell_text.specs.declared.fault.CellFault.{CellFault}
 use Rattle.cell_text.specs.declared.fault.CellError.{CellError}
 use Rattle.cell_text.specs.declared.fault.CellError.TheVariants as answers
 use Rattle.cell_text.specs.declared.fault.CellFault.TheVariants.{NotMagcell, BadByte, BadLine, MetricTwice, MetricMissing, MetricRange, NotPositive, PositionRange, MomentRange, TooManyAtoms, NoAtom, SamePlace, NoEnd, AfterEnd}
 use Rattle.plain_text.specs.Text.{lines, has_bad_byte}
 use Rattle.plain_text.specs.FirstFaults.{when, or_else, first_of}
-use Rattle.cell_text.specs.Lines.{word_fault, is_heading, is_metric_line, is_atom_line, is_end_line, is_skipped, number_words}
-use Rattle.cell_text.specs.Entries.{AtomLine, Contents, atom_of, metric_of, contents, is_metric_in_range, is_positive, are_positions_in_range, are_moments_in_range, is_same_place}
+use Rattle.cell_text.specs.Lines.{word_fault, version_of, Entry, skipped, metric_entry, atom_entry, end_entry, other_entry, entry_of}
+use Rattle.cell_text.specs.Entries.{AtomLine, Contents, State, values, atom_of, metric_of, state_after, contents, is_metric_in_range, is_positive, are_positions_in_range, are_moments_in_range, is_same_place}
 
 -- Atom number j stands at the position of one of these, which are numbered from i: the first such.
 abbrev pub same_place_from : ℕ → ℕ → List AtomLine → AtomLine → Option CellFault
@@ -26,37 +28,77 @@ unfoldable pub same_place : List AtomLine → AtomLine → Option CellFault
 same_place held b = same_place_from 1 (length held + 1) held b
 
 -- The first line.
-abbrev pub heading_fault : List ℕ → Option CellFault
+unfoldable pub heading_fault : List ℕ → Option CellFault
 heading_fault line = first_of
     (when (has_bad_byte line) BadByte
-    ∷ when (not (is_heading line)) NotMagcell
+    ∷ when (is_none (version_of line)) NotMagcell
     ∷ [])
 
--- A later line that is not skipped, behind lines with these contents.
-unfoldable pub later_fault : Contents → List ℕ → Option CellFault
-later_fault before line = first_of
+-- A metric line with these words, behind lines with these contents.
+unfoldable pub metric_fault : Contents → List (List ℕ) → Option CellFault
+metric_fault before ws = first_of
+    (when (not (length before.metrics == 0)) MetricTwice
+    ∷ first_of (map word_fault ws)
+    ∷ when (not (is_metric_in_range (values ws))) MetricRange
+    ∷ when (not (is_positive (metric_of (values ws)).entries)) NotPositive
+    ∷ [])
+
+-- An atom, where the words of its line are numbers.
+unfoldable pub place_fault : Contents → AtomLine → Option CellFault
+place_fault before a = first_of
+    (when (not (are_positions_in_range (before.atoms ++ a ∷ []))) PositionRange
+    ∷ when (not (are_moments_in_range (before.atoms ++ a ∷ []))) MomentRange
+    ∷ same_place before.atoms a
+    ∷ [])
+
+-- An atom line with this name and these words.
+unfoldable pub atom_fault : Contents → List ℕ → List (List ℕ) → Option CellFault
+atom_fault before name ws = first_of
+    (when (nat_le 512 (length before.atoms)) TooManyAtoms
+    ∷ first_of (map word_fault ws)
+    ∷ place_fault before (atom_of name (values ws))
+    ∷ [])
+
+-- An end line.
+unfoldable pub end_fault : Contents → Option CellFault
+end_fault before = first_of
+    (when (length before.metrics == 0) MetricMissing
+    ∷ when (length before.atoms == 0) NoAtom
+    ∷ [])
+
+-- A line, by its form.
+abbrev pub entry_fault : Contents → Entry → Option CellFault
+entry_fault before skipped = None
+entry_fault before (metric_entry ws) = metric_fault before ws
+entry_fault before (atom_entry name ws) = atom_fault before name ws
+entry_fault before end_entry = end_fault before
+entry_fault before other_entry = Some BadLine
+
+abbrev pub is_skipped : Entry → Bool
+is_skipped skipped = true
+is_skipped (metric_entry ws) = false
+is_skipped (atom_entry name ws) = false
+is_skipped end_entry = false
+is_skipped other_entry = false
+
+-- A later line, which is this entry. One that is skipped breaks no rule.
+unfoldable pub later_fault : Contents → List ℕ → Entry → Option CellFault
+later_fault before line entry = if is_skipped entry then None else first_of
     (when (has_bad_byte line) BadByte
     ∷ when before.ended AfterEnd
-    ∷ when (not (is_metric_line line || is_atom_line line || is_end_line line)) BadLine
-    ∷ when (is_metric_line line && not (length before.metrics == 0)) MetricTwice
-    ∷ when (is_atom_line line && nat_le 512 (length before.atoms)) TooManyAtoms
-    ∷ first_of (map word_fault (number_words line))
-    ∷ when (is_metric_line line && not (is_metric_in_range line)) MetricRange
-    ∷ when (is_metric_line line && not (is_positive (metric_of line).entries)) NotPositive
-    ∷ when (is_atom_line line && not (are_positions_in_range (before.atoms ++ atom_of line ∷ []))) PositionRange
-    ∷ when (is_atom_line line && not (are_moments_in_range (before.atoms ++ atom_of line ∷ []))) MomentRange
-    ∷ (if is_atom_line line then same_place before.atoms (atom_of line) else None)
-    ∷ when (is_end_line line && length before.metrics == 0) MetricMissing
-    ∷ when (is_end_line line && length before.atoms == 0) NoAtom
+    ∷ entry_fault before entry
     ∷ [])
 
--- The first rule that a line breaks, behind so many lines with these contents. The first line is never skipped.
-unfoldable pub judged : ℕ → Contents → List ℕ → Option CellFault
-judged zero before line = heading_fault line
-judged (suc n) before line = if is_skipped line then None else later_fault before line
+-- The first rule that a line breaks. Where no version is known it is the first line, and is never skipped.
+abbrev pub judged_by : Option Version → Contents → List ℕ → Option CellFault
+judged_by None before line = heading_fault line
+judged_by (Some version) before line = later_fault before line (entry_of version line)
+
+abbrev pub judged : State → List ℕ → Option CellFault
+judged before line = judged_by before.version before.held line
 
 abbrev pub fault_after : List (List ℕ) → List ℕ → Option CellFault
-fault_after before line = judged (length before) (contents before) line
+fault_after before line = judged (state_after before) line
 
 -- An empty text is no cell file, and another must have an `end`.
 abbrev pub fault_at_end : List (List ℕ) → Option CellFault

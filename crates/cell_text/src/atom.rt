@@ -1,41 +1,46 @@
-ghost use Rattle.std.specs.Prelude.{true, ◌≡◌, ◌≤◌, map, length, drop, IfOk, MatchResult, Some, None, [], ◌∷◌};
+// Atom lines read, their ranges, and atoms at one position.
+ghost use Rattle.std.specs.Prelude.{true, ◌≡◌, ◌≤◌, ◌++◌, map, length, MatchResult, Some, None, [], ◌∷◌};
 ghost use Rattle.std.specs.List.{list_all};
-ghost use Rattle.plain_text.specs.Text.{words};
-ghost use Rattle.plain_text.specs.FirstFaults.{first_of};
-ghost use Rattle.cell_text.specs.Lines.{word_fault, is_atom_line};
 ghost use Rattle.plain_text.specs.NumberWords.{scaled};
-ghost use Rattle.cell_text.specs.Entries.{atom_of, moments, is_billion, is_same_place};
+ghost use Rattle.cell_text.specs.Entries.{values, atom_of, moments, is_billion, is_same_place};
 ghost use Rattle.cell_text.specs.Rules.{same_place};
-ghost use Rattle.cell_text.specs.Views.{atom_view};
+ghost use Rattle.cell_text.specs.Views.{atom_view, words_view, numbers_view, first_three, moment_view, ReadsWords};
 
 use crate::atom_line::AtomLine;
 use crate::fault::CellFault;
-use crate::limits::is_billion;
-use crate::line::Line;
-use plain_text::is_same_modulo_1;
-use std::alloc::{AllocError, Global};
+use crate::number_words::{are_billions, read_numbers};
+use crate::three::{ThreeNumbers, ThreeWords};
+use crystal::Name;
+use plain_text::{is_same_modulo_1, zero};
 
-/// What the line says.
-pub(crate) fn atom_of(alloc: Global, line: &Line) -> Result<AtomLine, AllocError>
-    requires form { is_atom_line line.now.text.now ≡ true }
-    requires numbers { first_of (map word_fault (drop 2 (words line.now.text.now))) ≡ None }
-    ensures { IfOk result (λ a. atom_view a ≡ atom_of line.now.text.now) }
+/// The moment that three words spell, 0 where there are none; or the first rule that a word breaks.
+fn read_moment(words: Option<ThreeWords>) -> Result<ThreeNumbers, CellFault>
+    ensures { ReadsWords (moment_view words.entry) (λ f. numbers_view f ≡ first_three (values (moment_view words.entry))) result }
 {
-    let name = Vec::from_slice(alloc, line.word(1))?;
-    let x = line.value(2);
-    let y = line.value(3);
-    let z = line.value(4);
-    let ma = line.value(5);
-    let mb = line.value(6);
-    let mc = line.value(7);
+    match words {
+        Some(words) => read_numbers(words),
+        None => Ok(ThreeNumbers {
+            a: zero(),
+            b: zero(),
+            c: zero(),
+        }),
+    }
+}
+
+/// What an atom line says, or the first rule that a word breaks that is to be a number.
+pub(crate) fn read_atom(
+    name: Name,
+    position: ThreeWords,
+    moment: Option<ThreeWords>,
+) -> Result<AtomLine, CellFault>
+    ensures { ReadsWords (words_view position.entry ++ moment_view moment.entry) (λ a. atom_view a ≡ atom_of name (values (words_view position.entry ++ moment_view moment.entry))) result }
+{
+    let position = read_numbers(position)?;
+    let moment = read_moment(moment)?;
     Ok(AtomLine {
         name,
-        x,
-        y,
-        z,
-        ma,
-        mb,
-        mc,
+        position,
+        moment,
     })
 }
 
@@ -45,13 +50,7 @@ pub(crate) fn is_moment_in_range(a: &AtomLine, k: u128) -> bool
     requires { k ≤ 1000000 }
     ensures { result ≡ list_all (λ m. is_billion (scaled k m)) (moments (atom_view a.now ∷ [])) }
 {
-    if !is_billion(&a.ma, k) {
-        return false;
-    }
-    if !is_billion(&a.mb, k) {
-        return false;
-    }
-    is_billion(&a.mc, k)
+    are_billions(&a.moment, k)
 }
 
 /// Whether k times their moments are.
@@ -70,13 +69,9 @@ pub(crate) fn are_moments_in_range(atoms: &[AtomLine], k: u128) -> bool
 fn is_same_place(a: &AtomLine, b: &AtomLine) -> bool
     ensures { result ≡ is_same_place (atom_view a.now) (atom_view b.now) }
 {
-    if !is_same_modulo_1(&a.x, &b.x) {
-        return false;
-    }
-    if !is_same_modulo_1(&a.y, &b.y) {
-        return false;
-    }
-    is_same_modulo_1(&a.z, &b.z)
+    is_same_modulo_1(&a.position.a, &b.position.a)
+        && is_same_modulo_1(&a.position.b, &b.position.b)
+        && is_same_modulo_1(&a.position.c, &b.position.c)
 }
 
 /// The first of these atoms at whose position the next atom stands.

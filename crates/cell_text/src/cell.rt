@@ -1,6 +1,6 @@
+// The cell of the lines of a cell file.
 ghost use Rattle.std.specs.Prelude.{◌≡◌, ◌≤◌, ◌<◌, ◌^◌, pos, map, length, IfOk, OnOk, true, [], ◌∷◌};
 ghost use Rattle.crystal_spec.specs.Moments.{axial_vectors};
-ghost use Rattle.crystal.specs.Names.{is_name};
 ghost use Rattle.crystal.specs.Views.{metric_of as tensor};
 ghost use Rattle.crystal.specs.Occupants.{NoneAt};
 ghost use Rattle.plain_text.specs.NumberWords.{common_denominator};
@@ -26,19 +26,15 @@ const AXIAL_VECTORS: MomentKind = MomentKind {
 };
 
 /// Names the species of this number, unless it has its name.
-fn name_species(cell: &mut Cell, number: usize, name: &[u8]) -> Result<(), AllocError>
+fn name_species(cell: &mut Cell, number: usize, name: &Name) -> Result<(), AllocError>
     requires number { number ≡ number_of cell.old.names name.now }
-    requires form { is_name name.now ≡ true }
     requires fewer { length cell.old.names < 512 }
     ensures { OnOk result (cell.new ≡ record cell.old { names = with_name cell.old.names name.now }) }
 {
     if number < cell.names() {
         return Ok(());
     }
-    let Some(name) = Name::new(name) else {
-        unreachable!();
-    };
-    cell.add_name(name)?;
+    cell.add_name(name.copied())?;
     Ok(())
 }
 
@@ -58,9 +54,9 @@ fn add_atom(
     requires fewer_names { length cell.old.names < 512 }
     requires fewer { length cell.old.sites < 512 }
     ensures cell { OnOk result (cell.new ≡ with_site cell.old (atom_view atom.now)) }
-    ensures names { OnOk result (map (λ v. v.items) names.new.keys ≡ with_name cell.old.names atom.now.name.items) }
+    ensures names { OnOk result (map (λ v. v.items) names.new.keys ≡ with_name cell.old.names atom.now.name) }
 {
-    let name = Vec::from_slice(alloc, &atom.name)?;
+    let name = Vec::from_slice(alloc, atom.name.as_bytes())?;
     let number = number_name(names, name)?;
     name_species(cell, number, &atom.name)?;
     let n = cell.n();
@@ -93,11 +89,8 @@ fn first_cell(
     requires n_at_most { n ≤ 10 ^ 6 }
     requires k_at_least { 1 ≤ k }
     requires k_at_most { k ≤ 10 ^ 6 }
-    ensures { IfOk result (λ c. c ≡ record { names = atom.now.name.items ∷ []; scale = pos metric.now.scale; metric = tensor metric.now.metric; n = n; k = k; kind = axial_vectors; sites = record { species = 0; position = position_of n (atom_view atom.now); moment = moment_of k (atom_view atom.now) } ∷ [] }) }
+    ensures { IfOk result (λ c. c ≡ record { names = atom.now.name ∷ []; scale = pos metric.now.scale; metric = tensor metric.now.metric; n = n; k = k; kind = axial_vectors; sites = record { species = 0; position = position_of n (atom_view atom.now); moment = moment_of k (atom_view atom.now) } ∷ [] }) }
 {
-    let Some(name) = Name::new(&atom.name) else {
-        unreachable!();
-    };
     let first = Atom {
         species: 0,
         place: position_of(atom, n),
@@ -111,7 +104,7 @@ fn first_cell(
         n,
         k,
         AXIAL_VECTORS,
-        name,
+        atom.name.copied(),
         first,
     )
 }
@@ -142,7 +135,7 @@ pub(crate) fn cell_of(
         unreachable!();
     };
     let mut cell = first_cell(alloc, metric, n, k, first)?;
-    let mut names = first_names(alloc, &first.name)?;
+    let mut names = first_names(alloc, first.name.as_bytes())?;
     for atom in rest {
         add_atom(alloc, &mut cell, &mut names, atom)?;
     }

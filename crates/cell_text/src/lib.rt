@@ -4,8 +4,8 @@
 //! Numbers are fractions; positions are in units of the axes and taken modulo 1, moments along the axes. The least common
 //! denominators of the metric tensor, of all positions and of all moments are the units of the cell.
 //!
-//! Definitions: `specs/Lines` (the forms of a line), `specs/Entries` (what a line says), `specs/Rules` (the first line that
-//! breaks a rule) and `specs/CellFile` (the cell that a text spells), over the lines, words and number words of plain_text.
+//! Definitions: `specs/Lines` (what a line is), `specs/Entries` (what a line says), `specs/Rules` (the first line that breaks a
+//! rule) and `specs/CellFile` (the cell that a text spells), over the lines, words and number words of plain_text.
 //! The format is our own.
 #![tactic(auto)]
 
@@ -13,16 +13,21 @@ mod atom;
 mod atom_line;
 mod cell;
 mod fault;
-mod limits;
+mod form;
 mod line;
 mod metric;
 mod names;
+mod number_words;
 mod read;
 mod reader;
 mod scaled_metric;
 mod site;
 #[cfg(test)]
 mod tests;
+pub mod texts;
+mod three;
+mod version;
 
 pub use fault::{CellError, CellFault};
 pub use read::read_cell;
+pub use version::Version;

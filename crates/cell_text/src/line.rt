@@ -1,34 +1,40 @@
-ghost use Rattle.std.specs.Prelude.{◌≡◌, ◌≤◌, ◌+◌, ℕ, map, length, drop, IfOk, MatchResult, Some, None, true, ◌||◌, ◌==◌, ◌<◌};
-ghost use Rattle.crystal.specs.Names.{is_name};
+// What a line is, by its words.
+ghost use Rattle.std.specs.Prelude.{◌≡◌, ℕ, map, MatchResult, None, Some};
 ghost use Rattle.plain_text.specs.Text.{words};
-ghost use Rattle.plain_text.specs.FirstFaults.{first_of};
-ghost use Rattle.cell_text.specs.Lines.{word_fault, same_word, word_count, word_at, value_at, is_heading, is_metric_line, is_atom_line, is_end_line, is_skipped, begins_comment, number_words};
-ghost use Rattle.plain_text.specs.Views.{fraction_of};
+ghost use Rattle.cell_text.specs.Lines.{begins_comment, is_heading, version_of, behind_metric, behind_atom, behind_end, entry_behind, entry_of_words};
+ghost use Rattle.cell_text.specs.Rules.{heading_fault};
+ghost use Rattle.cell_text.specs.Views.{entry_view};
 
 use crate::fault::CellFault;
+use crate::form::Form;
+use crate::three::ThreeWords;
+use crate::version::Version;
 use crystal::Name;
-use plain_text::{NumberWord, read_number, words, zero};
-use std::alloc::{AllocError, Global};
+use plain_text::has_bad_byte;
 
-/// A line and its words.
-#[derive(Drop)]
-pub(crate) struct Line<'a> {
-    pub text: &'a [u8],
-    parts: Vec<&'a [u8]>,
-    ghost cut: { map (λ w. w.now) parts.items ≡ words text.now },
+/// Whether the words are `magcell 1`.
+fn is_heading(words: &[&[u8]]) -> bool
+    ensures { result ≡ is_heading (map (λ w. w.now) words.now) }
+{
+    match words {
+        [first, second] => *first == b"magcell".as_slice() && *second == b"1".as_slice(),
+        _ => false,
+    }
 }
 
-fn is_same_word(v: &[u8], w: &[u8]) -> bool
-    ensures { result ≡ same_word v.now w.now }
+/// The version that the first line tells.
+#[tactic(auto, unfolding(crate::specs::Lines::version_of, crate::specs::Rules::heading_fault))]
+pub(crate) fn heading(line: &[u8], parts: &[&[u8]]) -> Result<Version, CellFault>
+    requires cut { map (λ w. w.now) parts.now ≡ words line.now }
+    ensures { MatchResult result (λ v. (heading_fault line.now ≡ None) × (version_of line.now ≡ Some v)) (λ e. heading_fault line.now ≡ Some e) }
 {
-    v == w
-}
-
-/// Whether the word is the name of a species.
-fn is_name(word: &[u8]) -> bool
-    ensures { result ≡ is_name word.now }
-{
-    Name::new(word).is_some()
+    if has_bad_byte(line) {
+        return Err(CellFault::BadByte);
+    }
+    if !is_heading(parts) {
+        return Err(CellFault::NotMagcell);
+    }
+    Ok(Version::One)
 }
 
 fn begins_comment(word: &[u8]) -> bool
@@ -40,97 +46,100 @@ fn begins_comment(word: &[u8]) -> bool
     }
 }
 
-impl<'a> Line<'a> {
-    /// The line cut into words.
-    pub(crate) fn new(alloc: Global, text: &'a [u8]) -> Result<Line<'a>, AllocError>
-        ensures { IfOk result (λ l. l.text.now ≡ text.now) }
-    {
-        let parts = words(alloc, text)?;
-        Ok(Line { text, parts })
+/// What a line is whose first word is `metric`.
+fn behind_metric<'a>(words: &'a [&'a [u8]]) -> Form<'a>
+    ensures { entry_view result ≡ behind_metric (map (λ w. w.now) words.now) }
+{
+    match words {
+        [aa, bb, cc, bc, ac, ab] => Form::Metric(
+            ThreeWords {
+                a: *aa,
+                b: *bb,
+                c: *cc,
+            },
+            ThreeWords {
+                a: *bc,
+                b: *ac,
+                c: *ab,
+            },
+        ),
+        _ => Form::Other,
     }
+}
 
-    /// How many words there are.
-    pub(crate) fn count(&self) -> usize
-        ensures { result ≡ word_count self.now.text.now }
-    {
-        self.parts.len()
+/// What a line is whose first word is `atom`.
+fn behind_atom<'a>(words: &'a [&'a [u8]]) -> Form<'a>
+    ensures { entry_view result ≡ behind_atom (map (λ w. w.now) words.now) }
+{
+    let [name, numbers @ ..] = words else {
+        return Form::Other;
+    };
+    let Some(name) = Name::new(*name) else {
+        return Form::Other;
+    };
+    match numbers {
+        [x, y, z] => Form::Atom(
+            name,
+            ThreeWords {
+                a: *x,
+                b: *y,
+                c: *z,
+            },
+            None,
+        ),
+        [x, y, z, ma, mb, mc] => Form::Atom(
+            name,
+            ThreeWords {
+                a: *x,
+                b: *y,
+                c: *z,
+            },
+            Some(ThreeWords {
+                a: *ma,
+                b: *mb,
+                c: *mc,
+            }),
+        ),
+        _ => Form::Other,
     }
+}
 
-    /// The word with this number, empty where there is none.
-    pub(crate) fn word(&self, i: usize) -> &[u8]
-        ensures { result.now ≡ word_at self.now.text.now i }
-    {
-        if i < self.parts.len() {
-            self.parts[i]
-        } else {
-            b""
-        }
+/// What a line is whose first word is `end`.
+fn behind_end<'a>(words: &'a [&'a [u8]]) -> Form<'a>
+    ensures { entry_view result ≡ behind_end (map (λ w. w.now) words.now) }
+{
+    if words.is_empty() {
+        Form::End
+    } else {
+        Form::Other
     }
+}
 
-    #[tactic(auto, unfolding(crate::specs::Lines::is_heading))]
-    pub(crate) fn is_heading(&self) -> bool
-        ensures { result ≡ is_heading self.now.text.now }
-    {
-        is_same_word(self.word(0), b"magcell")
-            && is_same_word(self.word(1), b"1")
-            && self.count() == 2
+/// What a line is, by its first word and those behind it.
+fn form_behind<'a>(first: &[u8], words: &'a [&'a [u8]]) -> Form<'a>
+    ensures { entry_view result ≡ entry_behind first.now (map (λ w. w.now) words.now) }
+{
+    if begins_comment(first) {
+        Form::Skipped
+    } else if first == b"metric".as_slice() {
+        behind_metric(words)
+    } else if first == b"atom".as_slice() {
+        behind_atom(words)
+    } else if first == b"end".as_slice() {
+        behind_end(words)
+    } else {
+        Form::Other
     }
+}
 
-    #[tactic(auto, unfolding(crate::specs::Lines::is_metric_line))]
-    pub(crate) fn is_metric(&self) -> bool
-        ensures { result ≡ is_metric_line self.now.text.now }
-    {
-        is_same_word(self.word(0), b"metric") && self.count() == 7
-    }
-
-    #[tactic(auto, unfolding(crate::specs::Lines::is_atom_line))]
-    pub(crate) fn is_atom(&self) -> bool
-        ensures { result ≡ is_atom_line self.now.text.now }
-    {
-        is_same_word(self.word(0), b"atom")
-            && (self.count() == 5 || self.count() == 8)
-            && is_name(self.word(1))
-    }
-
-    #[tactic(auto, unfolding(crate::specs::Lines::is_end_line))]
-    pub(crate) fn is_end(&self) -> bool
-        ensures { result ≡ is_end_line self.now.text.now }
-    {
-        is_same_word(self.word(0), b"end") && self.count() == 1
-    }
-
-    #[tactic(auto, unfolding(crate::specs::Lines::is_skipped))]
-    pub(crate) fn is_skipped(&self) -> bool
-        ensures { result ≡ is_skipped self.now.text.now }
-    {
-        self.count() == 0 || begins_comment(self.word(0))
-    }
-
-    /// The first fault of the words from this number on, as numbers.
-    #[tactic(auto, unfolding(crate::specs::Lines::word_fault))]
-    pub(crate) fn check_numbers(&self, from: usize) -> Result<(), CellFault>
-        ensures { MatchResult result (λ _. first_of (map word_fault (drop from (words self.now.text.now))) ≡ None) (λ e. first_of (map word_fault (drop from (words self.now.text.now))) ≡ Some e) }
-    {
-        let mut i = from;
-        while i < self.count() {
-            read_number(self.word(i))?;
-            i += 1;
-        }
-        Ok(())
-    }
-
-    /// The number with this word, 0 where there is no such word.
-    #[tactic(auto, unfolding(crate::specs::Lines::word_fault))]
-    pub(crate) fn value(&self, i: usize) -> NumberWord
-        requires { i < word_count self.now.text.now → word_fault (word_at self.now.text.now i) ≡ None }
-        ensures { fraction_of result ≡ value_at self.now.text.now i }
-    {
-        if i >= self.count() {
-            return zero();
-        }
-        match read_number(self.word(i)) {
-            Ok(value) => value,
-            Err(_) => zero(),
-        }
+/// What a later line of a file of this version is, by its words.
+pub(crate) fn form_of<'a>(version: Version, words: &'a [&'a [u8]]) -> Form<'a>
+    ensures { entry_view result ≡ entry_of_words version (map (λ w. w.now) words.now) }
+{
+    match version {
+        Version::One => match words {
+            [] => Form::Skipped,
+            [first, rest @ ..] => form_behind(*first, rest),
+        },
     }
 }

@@ -1,3 +1,4 @@
+// Names numbered in the order of their first use.
 ghost use Rattle.std.specs.Prelude.{◌≡◌, List, ℕ, map, IfOk, OnOk, [], ◌∷◌};
 ghost use Rattle.cell_text.specs.CellFile.{with_name, number_of};
 

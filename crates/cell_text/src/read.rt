@@ -1,3 +1,4 @@
+// A text read line by line.
 ghost use Rattle.std.specs.Prelude.{◌≡◌, ◌<◌, ◌^◌, ◌+◌, length, MatchResult, IfOk, IfErr, None, true};
 ghost use Rattle.crystal.specs.Numbering.{AreByFirstUse};
 ghost use Rattle.plain_text.specs.Text.{lines};
@@ -5,7 +6,7 @@ ghost use Rattle.cell_text.specs.Entries.{contents};
 ghost use Rattle.cell_text.specs.Rules.{cell_fault, Tells};
 ghost use Rattle.cell_text.specs.CellFile.{Spells};
 
-use crate::fault::{CellError, CellFault, LineError};
+use crate::fault::{CellError, CellFault};
 use crate::reader::Reader;
 use crystal::Cell;
 use io_edge::Bytes;
@@ -22,10 +23,8 @@ fn read_lines(alloc: Global, text: &[u8]) -> Result<Reader, CellError>
     let mut number: u32 = 1;
     while !rest.is_empty() {
         let (line, after) = first_line(rest);
-        match reader.read(alloc, line) {
-            Ok(()) => {}
-            Err(LineError::Memory) => return Err(CellError::Memory),
-            Err(LineError::Fault(fault)) => return Err(CellError::Refused(number, fault)),
+        if let Err(error) = reader.read(alloc, line) {
+            return Err(error.at(number));
         }
         rest = after;
         number += 1;
@@ -50,12 +49,7 @@ pub fn read_cell(alloc: Global, text: &Bytes) -> Result<Cell, CellError>
     ensures numbered { IfOk result (λ c. AreByFirstUse 0 (length c.names) c.sites) }
     ensures refused { IfErr result (Tells (cell_fault text.now)) }
 {
-    let reader = match read_lines(alloc, text.as_slice()) {
-        Ok(reader) => reader,
-        Err(error) => return Err(error),
-    };
-    let Ok(cell) = reader.finish(alloc) else {
-        return Err(CellError::Memory);
-    };
+    let reader = read_lines(alloc, text.as_slice())?;
+    let cell = reader.finish(alloc)?;
     Ok(cell)
 }

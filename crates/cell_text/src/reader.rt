@@ -1,28 +1,33 @@
-ghost use Rattle.std.specs.Prelude.{true, ◌≡◌, ◌+◌, ◌^◌, ◌<◌, ◌≤◌, ◌++◌, [], ◌∷◌, length, map, OnOk, IfOk, false};
+// The reader, which takes the lines of a text one by one.
+ghost use Rattle.std.specs.Prelude.{true, ◌≡◌, ◌<◌, ◌≤◌, ◌++◌, [], ◌∷◌, length, map, OnOk, IfOk};
 ghost use Rattle.std.specs.List.{list_all};
+ghost use Rattle.plain_text.specs.Text.{words};
 ghost use Rattle.plain_text.specs.NumberWords.{scaled};
-ghost use Rattle.cell_text.specs.Entries.{moments, is_billion, atom_of, metric_of};
-ghost use Rattle.cell_text.specs.Rules.{same_place, heading_fault, later_fault, judged};
+ghost use Rattle.cell_text.specs.Entries.{start, with_metric, with_atom, with_end, with_entry, with_line, moments, is_billion, atom_of, metric_of, values};
+ghost use Rattle.cell_text.specs.Rules.{metric_fault, place_fault, atom_fault, end_fault, entry_fault, later_fault, judged};
 ghost use Rattle.cell_text.specs.CellFile.{cell_with};
-ghost use Rattle.cell_text.specs.Lines.{is_atom_line};
-ghost use Rattle.cell_text.specs.Views.{Judges, State, with_atom, with_metric, with_line, metric_line_faults, atom_faults, atom_view, atom_line_faults, end_line_faults, with_end};
+ghost use Rattle.cell_text.specs.Views.{Judges, atom_view, entry_view, words_view, moment_view};
 
-use crate::atom::{are_moments_in_range, atom_of, is_moment_in_range, same_place};
+use crate::atom::{are_moments_in_range, is_moment_in_range, read_atom, same_place};
 use crate::atom_line::AtomLine;
 use crate::cell::cell_of;
 use crate::fault::{CellFault, LineError};
-use crate::line::Line;
+use crate::form::Form;
+use crate::line::{form_of, heading};
 use crate::metric::metric_of;
+use crate::number_words::read_numbers;
 use crate::scaled_metric::ScaledMetric;
-use crystal::Cell;
-use plain_text::{grown, has_bad_byte};
+use crate::three::ThreeWords;
+use crate::version::Version;
+use crystal::{Cell, Name};
+use plain_text::{grown, has_bad_byte, words};
 use std::alloc::{AllocError, Global};
 use std::marker::Model;
 
 /// The lines so far.
 #[derive(Drop)]
 pub(crate) struct Reader {
-    count: u32,
+    version: Option<Version>,
     metric: Option<ScaledMetric>,
     atoms: Vec<AtomLine>,
     n: u128,
@@ -31,7 +36,7 @@ pub(crate) struct Reader {
 }
 
 impl Model for Reader {
-    ghost use Rattle.cell_text.specs.Views.{State};
+    ghost use Rattle.cell_text.specs.Entries.{State};
     ghost use Rattle.cell_text.specs.Readers.{state_of, IsReader};
 
     ghost Value = { State };
@@ -45,10 +50,10 @@ impl Reader {
     /// No line so far.
     #[tactic(auto, unfolding(crate::specs::Entries::moments, crate::specs::Entries::positions))]
     pub(crate) fn new(alloc: Global) -> Reader
-        ensures { result ≡ record { count = 0; held = record { metrics = []; atoms = []; ended = false } } }
+        ensures { result ≡ start }
     {
         Reader {
-            count: 0,
+            version: None,
             metric: None,
             atoms: Vec::new(alloc),
             n: 1,
@@ -75,68 +80,82 @@ impl Reader {
         cell_of(alloc, &metric, self.n as u32, self.k as u32, &self.atoms)
     }
 
+    /// Whether k times each moment is at most 10^9 in size, where k is a multiple of the common denominator so far.
     fn are_moments_in_range(&self, atom: &AtomLine, k: u128) -> bool
         requires { k ≤ 1000000 }
         ensures { result ≡ list_all (λ m. is_billion (scaled k m)) (moments (self.now.held.atoms ++ atom_view atom.now ∷ [])) }
     {
-        if !are_moments_in_range(&self.atoms, k) {
-            return false;
-        }
-        is_moment_in_range(atom, k)
+        (k == self.k || are_moments_in_range(&self.atoms, k)) && is_moment_in_range(atom, k)
     }
 
     /// One more atom.
     fn place(&mut self, atom: AtomLine) -> Result<(), LineError>
         requires { length self.old.held.atoms < 512 }
-        ensures judged { Judges (atom_faults self.old.held (atom_view atom)) result }
-        ensures next { OnOk result (self.new ≡ record { count = self.old.count; held = with_atom self.old.held (atom_view atom) }) }
+        ensures judged { Judges (place_fault self.old.held (atom_view atom)) result }
+        ensures next { OnOk result (self.new ≡ record self.old { held = with_atom self.old.held (atom_view atom) }) }
     {
-        let Some(n) = grown(self.n, &atom.x, &atom.y, &atom.z, 1_000_000) else {
+        let place = &atom.position;
+        let Some(n) = grown(self.n, &place.a, &place.b, &place.c, 1_000_000) else {
             return Err(LineError::Fault(CellFault::PositionRange));
         };
-        let Some(k) = grown(self.k, &atom.ma, &atom.mb, &atom.mc, 1_000_000) else {
+        let moment = &atom.moment;
+        let Some(k) = grown(self.k, &moment.a, &moment.b, &moment.c, 1_000_000) else {
             return Err(LineError::Fault(CellFault::MomentRange));
         };
         if !self.are_moments_in_range(&atom, k) {
             return Err(LineError::Fault(CellFault::MomentRange));
         }
-        match same_place(&self.atoms, &atom) {
-            Ok(()) => {}
-            Err(fault) => return Err(LineError::Fault(fault)),
-        }
-        let Ok(()) = self.atoms.push(atom) else {
-            return Err(LineError::Memory);
-        };
+        same_place(&self.atoms, &atom)?;
+        self.atoms.push(atom)?;
         self.n = n;
         self.k = k;
         Ok(())
     }
 
     /// An atom line.
-    #[tactic(auto, unfolding(crate::specs::Views::atom_line_faults))]
-    fn read_atom(&mut self, alloc: Global, line: &Line) -> Result<(), LineError>
-        requires { is_atom_line line.now.text.now ≡ true }
-        ensures judged { Judges (atom_line_faults self.old.held line.now.text.now) result }
-        ensures next { OnOk result (self.new ≡ record { count = self.old.count; held = with_atom self.old.held (atom_of line.now.text.now) }) }
+    #[tactic(auto, unfolding(crate::specs::Rules::atom_fault))]
+    fn read_atom(
+        &mut self,
+        name: Name,
+        position: ThreeWords,
+        moment: Option<ThreeWords>,
+    ) -> Result<(), LineError>
+        ensures judged { Judges (atom_fault self.old.held name (words_view position.entry ++ moment_view moment.entry)) result }
+        ensures next { OnOk result (self.new ≡ record self.old { held = with_atom self.old.held (atom_of name (values (words_view position.entry ++ moment_view moment.entry))) }) }
     {
         if self.atoms.len() >= 512 {
             return Err(LineError::Fault(CellFault::TooManyAtoms));
         }
-        match line.check_numbers(2) {
-            Ok(()) => {}
-            Err(fault) => return Err(LineError::Fault(fault)),
-        }
-        let Ok(atom) = atom_of(alloc, line) else {
-            return Err(LineError::Memory);
-        };
+        let atom = read_atom(name, position, moment)?;
         self.place(atom)
     }
 
+    /// A metric line.
+    #[tactic(auto, unfolding(crate::specs::Rules::metric_fault))]
+    fn read_metric(&mut self, squares: ThreeWords, products: ThreeWords) -> Result<(), LineError>
+        ensures judged { Judges (metric_fault self.old.held (words_view squares.entry ++ words_view products.entry)) result }
+        ensures next { OnOk result (self.new ≡ record self.old { held = with_metric self.old.held (metric_of (values (words_view squares.entry ++ words_view products.entry))) }) }
+    {
+        if self.metric.is_some() {
+            return Err(LineError::Fault(CellFault::MetricTwice));
+        }
+        let squares = read_numbers(squares)?;
+        let products = read_numbers(products)?;
+        let Some(metric) = metric_of(&squares, &products) else {
+            return Err(LineError::Fault(CellFault::MetricRange));
+        };
+        if !metric.is_positive() {
+            return Err(LineError::Fault(CellFault::NotPositive));
+        }
+        self.metric = Some(metric);
+        Ok(())
+    }
+
     /// An end line.
-    #[tactic(auto, unfolding(crate::specs::Views::end_line_faults))]
+    #[tactic(auto, unfolding(crate::specs::Rules::end_fault))]
     fn read_end(&mut self) -> Result<(), LineError>
-        ensures judged { Judges (end_line_faults self.old.held) result }
-        ensures next { OnOk result (self.new ≡ record { count = self.old.count; held = with_end self.old.held }) }
+        ensures judged { Judges (end_fault self.old.held) result }
+        ensures next { OnOk result (self.new ≡ record self.old { held = with_end self.old.held }) }
     {
         if self.metric.is_none() {
             return Err(LineError::Fault(CellFault::MetricMissing));
@@ -148,94 +167,48 @@ impl Reader {
         Ok(())
     }
 
-    /// A metric line.
-    #[tactic(auto, unfolding(crate::specs::Views::metric_line_faults))]
-    fn read_metric(&mut self, line: &Line) -> Result<(), LineError>
-        ensures judged { Judges (metric_line_faults self.old.held line.now.text.now) result }
-        ensures next { OnOk result (self.new ≡ record { count = self.old.count; held = with_metric self.old.held (metric_of line.now.text.now) }) }
+    /// A line, by its form.
+    fn read_form(&mut self, form: Form) -> Result<(), LineError>
+        ensures judged { Judges (entry_fault self.old.held (entry_view form.entry)) result }
+        ensures next { OnOk result (self.new ≡ record self.old { held = with_entry self.old.held (entry_view form.entry) }) }
     {
-        if self.metric.is_some() {
-            return Err(LineError::Fault(CellFault::MetricTwice));
+        match form {
+            Form::Skipped => Ok(()),
+            Form::Metric(squares, products) => self.read_metric(squares, products),
+            Form::Atom(name, position, moment) => self.read_atom(name, position, moment),
+            Form::End => self.read_end(),
+            Form::Other => Err(LineError::Fault(CellFault::BadLine)),
         }
-        match line.check_numbers(1) {
-            Ok(()) => {}
-            Err(fault) => return Err(LineError::Fault(fault)),
-        }
-        let Some(metric) = metric_of(line) else {
-            return Err(LineError::Fault(CellFault::MetricRange));
-        };
-        if !metric.is_positive() {
-            return Err(LineError::Fault(CellFault::NotPositive));
-        }
-        self.metric = Some(metric);
-        Ok(())
     }
 
-    /// A later line that is not skipped.
-    fn read_later(&mut self, alloc: Global, line: &Line) -> Result<(), LineError>
-        ensures judged { Judges (later_fault self.old.held line.now.text.now) result }
-        ensures next { OnOk result (self.new ≡ record { count = self.old.count; held = with_line self.old.held line.now.text.now }) }
+    /// A later line, which has this form.
+    #[tactic(auto, unfolding(crate::specs::Rules::later_fault))]
+    fn read_later(&mut self, line: &[u8], form: Form) -> Result<(), LineError>
+        ensures judged { Judges (later_fault self.old.held line.now (entry_view form.entry)) result }
+        ensures next { OnOk result (self.new ≡ record self.old { held = with_entry self.old.held (entry_view form.entry) }) }
     {
-        if has_bad_byte(line.text) {
+        if let Form::Skipped = form {
+            return Ok(());
+        }
+        if has_bad_byte(line) {
             return Err(LineError::Fault(CellFault::BadByte));
         }
         if self.ended {
             return Err(LineError::Fault(CellFault::AfterEnd));
         }
-        if line.is_metric() {
-            let done = self.read_metric(line);
-            return done;
-        }
-        if line.is_atom() {
-            let done = self.read_atom(alloc, line);
-            return done;
-        }
-        if line.is_end() {
-            let done = self.read_end();
-            return done;
-        }
-        Err(LineError::Fault(CellFault::BadLine))
+        self.read_form(form)
     }
 
     /// The next line of the text.
-    pub(crate) fn read(&mut self, alloc: Global, text: &[u8]) -> Result<(), LineError>
-        requires { self.old.count + 1 < 2 ^ 32 }
-        ensures judged { Judges (judged self.old.count self.old.held text.now) result }
-        ensures next { OnOk result (self.new ≡ record { count = self.old.count + 1; held = with_line self.old.held text.now }) }
+    pub(crate) fn read(&mut self, alloc: Global, line: &[u8]) -> Result<(), LineError>
+        ensures judged { Judges (judged self.old line.now) result }
+        ensures next { OnOk result (self.new ≡ with_line self.old line.now) }
     {
-        let Ok(line) = Line::new(alloc, text) else {
-            return Err(LineError::Memory);
+        let words = words(alloc, line)?;
+        let Some(version) = self.version else {
+            self.version = Some(heading(line, &words)?);
+            return Ok(());
         };
-        if self.count == 0 {
-            match read_heading(&line) {
-                Ok(()) => {}
-                Err(error) => return Err(error),
-            }
-            self.count = 1;
-            return Ok(());
-        }
-        if line.is_skipped() {
-            self.count += 1;
-            return Ok(());
-        }
-        match self.read_later(alloc, &line) {
-            Ok(()) => {}
-            Err(error) => return Err(error),
-        }
-        self.count += 1;
-        Ok(())
+        self.read_later(line, form_of(version, &words))
     }
-}
-
-/// The first line.
-fn read_heading(line: &Line) -> Result<(), LineError>
-    ensures { Judges (heading_fault line.now.text.now) result }
-{
-    if has_bad_byte(line.text) {
-        return Err(LineError::Fault(CellFault::BadByte));
-    }
-    if !line.is_heading() {
-        return Err(LineError::Fault(CellFault::NotMagcell));
-    }
-    Ok(())
 }

@@ -1,3 +1,4 @@
+// A metric tensor with its scale. Its functions stand in `metric.rt`: their contracts cite definitions that see this type.
 ghost use Rattle.std.specs.Prelude.{◌<◌, ◌≤◌, ◌^◌};
 ghost use Rattle.crystal.specs.Views.{metric_of};
 ghost use Rattle.crystal.specs.Bounds.{EntriesAtMost};

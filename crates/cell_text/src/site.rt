@@ -1,3 +1,4 @@
+// Positions and moments of the atoms of a cell.
 ghost use Rattle.std.specs.Prelude.{◌≡◌, ◌≤◌, ◌<◌, ◌*◌, ◌^◌, pos};
 ghost use Rattle.ring.specs.Size.{AtMost};
 ghost use Rattle.crystal_spec.specs.Operations.{IsWithinCell};
@@ -9,6 +10,7 @@ ghost use Rattle.plain_text.specs.Views.{fraction_of};
 ghost use Rattle.cell_text.specs.Views.{atom_view};
 
 use crate::atom_line::AtomLine;
+use crate::number_words::whole;
 use exact_num::{Int, Residue};
 use matrix3::Vec3;
 use plain_text::{NumberWord, times};
@@ -20,8 +22,7 @@ fn part_of(f: &NumberWord, n: u32) -> u32
     ensures value { pos result ≡ part_of n (fraction_of f.now) }
     ensures below { result < n }
 {
-    let whole = times(f, n as u128);
-    Residue::new(whole, n).get()
+    Residue::new(times(f, n as u128), n).get()
 }
 
 /// The position in units of 1/n, within the cell.
@@ -32,19 +33,10 @@ pub(crate) fn position_of(atom: &AtomLine, n: u32) -> [u32; 3]
     ensures within { IsWithinCell n (triple_of result) }
 {
     [
-        part_of(&atom.x, n),
-        part_of(&atom.y, n),
-        part_of(&atom.z, n),
+        part_of(&atom.position.a, n),
+        part_of(&atom.position.b, n),
+        part_of(&atom.position.c, n),
     ]
-}
-
-/// k times the component.
-fn component(f: &NumberWord, k: u32) -> Int
-    requires { k ≤ 10 ^ 6 }
-    ensures value { result ≡ scaled k (fraction_of f.now) }
-    ensures size { AtMost (10 ^ 27) result }
-{
-    Int::new(times(f, k as u128)).unwrap()
 }
 
 /// The moment in units of 1/k.
@@ -54,8 +46,8 @@ pub(crate) fn moment_of(atom: &AtomLine, k: u32) -> Vec3<Int>
     ensures size { CoordinatesAtMost (2 * 10 ^ 27) result }
 {
     Vec3 {
-        x: component(&atom.ma, k),
-        y: component(&atom.mb, k),
-        z: component(&atom.mc, k),
+        x: whole(&atom.moment.a, k as u128),
+        y: whole(&atom.moment.b, k as u128),
+        z: whole(&atom.moment.c, k as u128),
     }
 }

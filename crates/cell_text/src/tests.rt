@@ -1,6 +1,6 @@
-// A cell that is read, and one with too many atoms. What texts spell, and why others are refused, is pinned in
-// `proofs/KnownValues.antt`.
-use crate::{CellError, CellFault, read_cell};
+// A cell that is read, one with too many atoms, and the texts of refusals. What texts spell, and why others are refused, is
+// pinned in `proofs/KnownValues.antt`.
+use crate::{CellError, CellFault, read_cell, texts};
 use crystal::Cell;
 use io_edge::Bytes;
 use std::alloc::{AllocError, Global};
@@ -54,4 +54,54 @@ fn a_cell_is_read(rt: HostRuntime) {
 #[test]
 fn the_513th_atom_is_refused(rt: HostRuntime) {
     assert!(rt; refusal(rt.alloc()) == Some(CellError::Refused(514, CellFault::TooManyAtoms)));
+}
+
+/// A rule, and what is said where it is broken.
+struct Told(CellFault, &'static str);
+
+/// The texts that the program writes.
+#[rattlefmt::skip]
+const TOLD: &[Told] = &[
+    Told(CellFault::NotMagcell, texts::NOT_MAGCELL),
+    Told(CellFault::BadByte, texts::BAD_BYTE),
+    Told(CellFault::BadLine, texts::BAD_LINE),
+    Told(CellFault::BadNumber, texts::BAD_NUMBER),
+    Told(CellFault::NumberRange, texts::NUMBER_RANGE),
+    Told(CellFault::ZeroDenominator, texts::ZERO_DENOMINATOR),
+    Told(CellFault::MetricTwice, texts::METRIC_TWICE),
+    Told(CellFault::MetricMissing, texts::METRIC_MISSING),
+    Told(CellFault::MetricRange, texts::METRIC_RANGE),
+    Told(CellFault::NotPositive, texts::NOT_POSITIVE),
+    Told(CellFault::PositionRange, texts::POSITION_RANGE),
+    Told(CellFault::MomentRange, texts::MOMENT_RANGE),
+    Told(CellFault::TooManyAtoms, texts::TOO_MANY_ATOMS),
+    Told(CellFault::NoAtom, texts::NO_ATOM),
+    Told(CellFault::SamePlace(1, 23), "atoms 1 and 23 stand at one place"),
+    Told(CellFault::NoEnd, texts::NO_END),
+    Told(CellFault::AfterEnd, texts::AFTER_END),
+];
+
+fn is_told(alloc: Global, row: &Told) -> Result<bool, AllocError> {
+    let text = row.0.to_string(alloc)?;
+    Ok(text.as_str() == row.1)
+}
+
+/// Whether the error is told in these words.
+fn is_told_as(alloc: Global, error: CellError, words: &str) -> Result<bool, AllocError> {
+    let text = error.to_string(alloc)?;
+    Ok(text.as_str() == words)
+}
+
+#[test]
+fn rules_have_the_texts_that_the_program_writes(rt: HostRuntime) {
+    for row in TOLD {
+        assert!(rt; is_told(rt.alloc(), row) == Ok(true));
+    }
+}
+
+#[test]
+fn a_refusal_is_told_with_its_line(rt: HostRuntime) {
+    let refused = CellError::Refused(7, CellFault::NoAtom);
+    assert!(rt; is_told_as(rt.alloc(), refused, "line 7: no atom") == Ok(true));
+    assert!(rt; is_told_as(rt.alloc(), CellError::Memory, texts::OUT_OF_MEMORY) == Ok(true));
 }

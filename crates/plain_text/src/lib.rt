@@ -15,6 +15,7 @@ mod lines;
 mod number;
 mod number_word;
 mod print;
+pub mod texts;
 
 pub use digits::{count, is_digits, value_of_digits};
 pub use fault::NumberFault;

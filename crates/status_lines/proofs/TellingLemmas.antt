@@ -62,15 +62,21 @@ tells_first_part (piece ∷ rest) d highest a b (Ok u) h e w = absurd (cc e)
 tells_first_part (piece ∷ rest) d highest a b (Err fault) h e w =
     tells_part highest a b piece.now (concat (map (λ (p : Bor (List ℕ)). p.now) rest)) fault.written w.1 w.2 w.3
 
--- four pieces, one after another
-pub four_pieces : (a b c d : List ℕ) → a ++ (b ++ (c ++ (d ++ []))) ≡ a ++ b ++ c ++ d
-four_pieces a b c d = ap (λ zs. a ++ (b ++ (c ++ zs))) (append-nil d) ∙ sym (append_assoc a b (c ++ d)) ∙ sym (append_assoc (a ++ b) c d)
+-- three pieces, one after another
+pub three_pieces : (m t e : List ℕ) → m ++ (t ++ (e ++ [])) ≡ m ++ t ++ e
+three_pieces m t e = ap (λ zs. m ++ (t ++ zs)) (append-nil e) ∙ sym (append_assoc m t e)
 
--- three pieces, and five more, one after another
-pub eight_pieces : (a b c d e f g h : List ℕ) → a ++ (b ++ (c ++ (d ++ (e ++ (f ++ (g ++ h)))))) ≡ (a ++ b ++ c) ++ (d ++ e ++ f ++ g ++ h)
-eight_pieces a b c d e f g h =
-    let five : d ++ (e ++ (f ++ (g ++ h))) ≡ d ++ e ++ f ++ g ++ h =
-    sym (append_assoc d e (f ++ (g ++ h))) ∙ sym (append_assoc (d ++ e) f (g ++ h)) ∙ sym (append_assoc (d ++ e ++ f) g h) in
-    sym (append_assoc a b (c ++ (d ++ (e ++ (f ++ (g ++ h))))))
-    ∙ sym (append_assoc (a ++ b) c (d ++ (e ++ (f ++ (g ++ h)))))
-    ∙ ap (λ zs. a ++ b ++ c ++ zs) five
+-- the pieces of a line on a cell that is refused, one after another
+pub line_pieces : (m l n c t e : List ℕ) → (m ++ l) ++ (n ++ (c ++ (t ++ (e ++ [])))) ≡ m ++ (l ++ n ++ c ++ t) ++ e
+line_pieces m l n c t e =
+    append_assoc m l (n ++ (c ++ (t ++ (e ++ []))))
+    ∙ ap (λ zs. m ++ zs) (four_joined l n c t (e ++ []))
+    ∙ three_pieces m (l ++ n ++ c ++ t) e
+  where
+    four_joined : (a b c d zs : List ℕ) → a ++ (b ++ (c ++ (d ++ zs))) ≡ (a ++ b ++ c ++ d) ++ zs
+    four_joined a b c d zs = sym (append_assoc a b (c ++ (d ++ zs))) ∙ sym (append_assoc (a ++ b) c (d ++ zs)) ∙ sym (append_assoc (a ++ b ++ c) d zs)
+
+-- five pieces, before a rest
+pub five_joined : (a b c d e zs : List ℕ) → a ++ (b ++ (c ++ (d ++ (e ++ zs)))) ≡ (a ++ b ++ c ++ d ++ e) ++ zs
+five_joined a b c d e zs =
+    sym (append_assoc a b (c ++ (d ++ (e ++ zs)))) ∙ sym (append_assoc (a ++ b) c (d ++ (e ++ zs))) ∙ sym (append_assoc (a ++ b ++ c) d (e ++ zs)) ∙ sym (append_assoc (a ++ b ++ c ++ d) e zs)

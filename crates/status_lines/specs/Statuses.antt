@@ -1,8 +1,10 @@
 -- How a run ended: its exit status, and the line that tells it.
 --   number_of status   the exit status of the program
---   fault_line fault   what the line says of a fault of the cell file
+--   fault_text fault   what the line says of a fault of the cell file
 --   line_of status     what goes to the error stream: nothing after a whole report, else one line
 use Rattle.std.specs.Prelude.{ℕ, List, [], ◌∷◌, ◌++◌, codes, decimal}
+use Rattle.plain_text.specs.declared.texts.TheConstants.{BAD_NUMBER, NUMBER_RANGE, ZERO_DENOMINATOR}
+use Rattle.cell_text.specs.declared.texts.TheConstants.{NOT_MAGCELL, BAD_BYTE, BAD_LINE, METRIC_TWICE, METRIC_MISSING, METRIC_RANGE, NOT_POSITIVE, POSITION_RANGE, MOMENT_RANGE, TOO_MANY_ATOMS, NO_ATOM, BEFORE_ATOMS, BETWEEN_ATOMS, BEHIND_ATOMS, NO_END, AFTER_END, OUT_OF_MEMORY}
 use Rattle.cell_text.specs.declared.fault.CellFault.{CellFault}
 use Rattle.cell_text.specs.declared.fault.CellFault.TheVariants.{NotMagcell, BadByte, BadLine, BadNumber, NumberRange, ZeroDenominator, MetricTwice, MetricMissing, MetricRange, NotPositive, PositionRange, MomentRange, TooManyAtoms, NoAtom, SamePlace, NoEnd, AfterEnd}
 use Rattle.command_words.specs.declared.command.UsageFault.{UsageFault}
@@ -32,31 +34,31 @@ usage_line MissingValue = told (codes "option needs a value")
 usage_line BadValue = told (codes "value is not a number of 1 to 9 digits")
 usage_line ExtraWord = told (codes "too many words")
 
--- lines and atoms are counted from 1
-abbrev pub fault_line : CellFault → List ℕ
-fault_line NotMagcell = codes "not a magcell 1 file\n"
-fault_line BadByte = codes "byte is not plain ASCII\n"
-fault_line BadLine = codes "line has no known form\n"
-fault_line BadNumber = codes "not a number\n"
-fault_line NumberRange = codes "number has more than 18 digits\n"
-fault_line ZeroDenominator = codes "denominator is zero\n"
-fault_line MetricTwice = codes "metric is given twice\n"
-fault_line MetricMissing = codes "metric is missing\n"
-fault_line MetricRange = codes "metric is out of range\n"
-fault_line NotPositive = codes "metric is not positive\n"
-fault_line PositionRange = codes "positions have no common denominator up to 1000000\n"
-fault_line MomentRange = codes "moments are out of range\n"
-fault_line TooManyAtoms = codes "more than 512 atoms\n"
-fault_line NoAtom = codes "no atom\n"
-fault_line (SamePlace i j) = codes "atoms " ++ decimal i ++ codes " and " ++ decimal j ++ codes " stand at one place\n"
-fault_line NoEnd = codes "end is missing\n"
-fault_line AfterEnd = codes "text after end\n"
+-- The texts stand in cell_text (`src/texts.rt`) and plain_text, each once; atoms are counted from 1.
+abbrev pub fault_text : CellFault → List ℕ
+fault_text NotMagcell = NOT_MAGCELL.now
+fault_text BadByte = BAD_BYTE.now
+fault_text BadLine = BAD_LINE.now
+fault_text BadNumber = BAD_NUMBER.now
+fault_text NumberRange = NUMBER_RANGE.now
+fault_text ZeroDenominator = ZERO_DENOMINATOR.now
+fault_text MetricTwice = METRIC_TWICE.now
+fault_text MetricMissing = METRIC_MISSING.now
+fault_text MetricRange = METRIC_RANGE.now
+fault_text NotPositive = NOT_POSITIVE.now
+fault_text PositionRange = POSITION_RANGE.now
+fault_text MomentRange = MOMENT_RANGE.now
+fault_text TooManyAtoms = TOO_MANY_ATOMS.now
+fault_text NoAtom = NO_ATOM.now
+fault_text (SamePlace i j) = BEFORE_ATOMS.now ++ decimal i ++ BETWEEN_ATOMS.now ++ decimal j ++ BEHIND_ATOMS.now
+fault_text NoEnd = NO_END.now
+fault_text AfterEnd = AFTER_END.now
 
 abbrev pub line_of : Status → List ℕ
 line_of (Done kept) = []
 line_of (Usage fault) = usage_line fault
 line_of CellTooLong = told (codes "cell is longer than 262144 bytes")
-line_of (CellRefused line fault) = codes "magsym: line " ++ decimal line ++ codes ": " ++ fault_line fault
+line_of (CellRefused line fault) = told (codes "line " ++ decimal line ++ codes ": " ++ fault_text fault)
 line_of ReadFault = told (codes "reading failed")
 line_of (WriteFault written kept) = told (codes "writing failed")
-line_of Memory = told (codes "out of memory")
+line_of Memory = told OUT_OF_MEMORY.now

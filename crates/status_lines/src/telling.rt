@@ -4,10 +4,10 @@ ghost use Rattle.status_lines.specs.Telling.{Tells};
 ghost use Rattle.status_lines.specs.declared.status.Status.TheVariants.{CellRefused};
 ghost use Rattle.cell_text.specs.declared.fault.CellFault.TheVariants.{SamePlace};
 ghost use Rattle.status_lines.specs.StatusKinds.{kind_of, IsDone};
-ghost use Rattle.status_lines.specs.Statuses.{fault_line, line_of};
+ghost use Rattle.status_lines.specs.Statuses.{told, fault_text, line_of};
 
 use crate::status::Status;
-use cell_text::CellFault;
+use cell_text::{CellFault, texts};
 use command_words::UsageFault;
 use io_edge::{Sink, write_whole};
 use itoa::Buffer;
@@ -25,14 +25,23 @@ fn tell_pieces<E: Sink>(err: &mut E, pieces: &[&[u8]])
 }
 
 /// Writes that a line of the cell file breaks a rule, and the text on the rule.
-fn tell_at<E: Sink>(err: &mut E, line: u32, fault: &CellFault, text: &[u8])
-    requires { text.now ≡ fault_line fault.now }
+fn tell_at<E: Sink>(err: &mut E, line: u32, fault: &CellFault, text: &str)
+    requires { text.now ≡ fault_text fault.now }
     ensures told { Tells E.highest_count (E.state err.old) (E.state err.new) (line_of (CellRefused line fault.now)) }
     ensures later { (E.state err.old).faults ≤ (E.state err.new).faults }
 {
     let mut number = Buffer::new();
     let line = number.format(line).as_bytes();
-    tell_pieces(err, &[b"magsym: line ".as_slice(), line, b": ", text]);
+    tell_pieces(
+        err,
+        &[
+            b"magsym: line ".as_slice(),
+            line,
+            b": ",
+            text.as_bytes(),
+            b"\n",
+        ],
+    );
 }
 
 /// Writes that a line of the cell file gives an atom at the position of another.
@@ -50,11 +59,12 @@ fn tell_same_place<E: Sink>(err: &mut E, line: u32, first: u32, second: u32)
             b"magsym: line ".as_slice(),
             line,
             b": ",
-            b"atoms ",
+            texts::BEFORE_ATOMS.as_bytes(),
             first,
-            b" and ",
+            texts::BETWEEN_ATOMS.as_bytes(),
             second,
-            b" stand at one place\n",
+            texts::BEHIND_ATOMS.as_bytes(),
+            b"\n",
         ],
     );
 }
@@ -65,29 +75,32 @@ fn tell_refused<E: Sink>(err: &mut E, line: u32, fault: &CellFault)
     ensures later { (E.state err.old).faults ≤ (E.state err.new).faults }
 {
     match fault {
-        CellFault::NotMagcell => tell_at(err, line, fault, b"not a magcell 1 file\n"),
-        CellFault::BadByte => tell_at(err, line, fault, b"byte is not plain ASCII\n"),
-        CellFault::BadLine => tell_at(err, line, fault, b"line has no known form\n"),
-        CellFault::BadNumber => tell_at(err, line, fault, b"not a number\n"),
-        CellFault::NumberRange => tell_at(err, line, fault, b"number has more than 18 digits\n"),
-        CellFault::ZeroDenominator => tell_at(err, line, fault, b"denominator is zero\n"),
-        CellFault::MetricTwice => tell_at(err, line, fault, b"metric is given twice\n"),
-        CellFault::MetricMissing => tell_at(err, line, fault, b"metric is missing\n"),
-        CellFault::MetricRange => tell_at(err, line, fault, b"metric is out of range\n"),
-        CellFault::NotPositive => tell_at(err, line, fault, b"metric is not positive\n"),
-        CellFault::PositionRange => tell_at(
-            err,
-            line,
-            fault,
-            b"positions have no common denominator up to 1000000\n",
-        ),
-        CellFault::MomentRange => tell_at(err, line, fault, b"moments are out of range\n"),
-        CellFault::TooManyAtoms => tell_at(err, line, fault, b"more than 512 atoms\n"),
-        CellFault::NoAtom => tell_at(err, line, fault, b"no atom\n"),
+        CellFault::NotMagcell => tell_at(err, line, fault, texts::NOT_MAGCELL),
+        CellFault::BadByte => tell_at(err, line, fault, texts::BAD_BYTE),
+        CellFault::BadLine => tell_at(err, line, fault, texts::BAD_LINE),
+        CellFault::BadNumber => tell_at(err, line, fault, texts::BAD_NUMBER),
+        CellFault::NumberRange => tell_at(err, line, fault, texts::NUMBER_RANGE),
+        CellFault::ZeroDenominator => tell_at(err, line, fault, texts::ZERO_DENOMINATOR),
+        CellFault::MetricTwice => tell_at(err, line, fault, texts::METRIC_TWICE),
+        CellFault::MetricMissing => tell_at(err, line, fault, texts::METRIC_MISSING),
+        CellFault::MetricRange => tell_at(err, line, fault, texts::METRIC_RANGE),
+        CellFault::NotPositive => tell_at(err, line, fault, texts::NOT_POSITIVE),
+        CellFault::PositionRange => tell_at(err, line, fault, texts::POSITION_RANGE),
+        CellFault::MomentRange => tell_at(err, line, fault, texts::MOMENT_RANGE),
+        CellFault::TooManyAtoms => tell_at(err, line, fault, texts::TOO_MANY_ATOMS),
+        CellFault::NoAtom => tell_at(err, line, fault, texts::NO_ATOM),
         CellFault::SamePlace(i, j) => tell_same_place(err, line, *i, *j),
-        CellFault::NoEnd => tell_at(err, line, fault, b"end is missing\n"),
-        CellFault::AfterEnd => tell_at(err, line, fault, b"text after end\n"),
+        CellFault::NoEnd => tell_at(err, line, fault, texts::NO_END),
+        CellFault::AfterEnd => tell_at(err, line, fault, texts::AFTER_END),
     }
+}
+
+/// Writes `magsym: `, the text and LF.
+fn tell_text<E: Sink>(err: &mut E, text: &[u8])
+    ensures told { Tells E.highest_count (E.state err.old) (E.state err.new) (told text.now) }
+    ensures later { (E.state err.old).faults ≤ (E.state err.new).faults }
+{
+    tell_pieces(err, &[b"magsym: ".as_slice(), text, b"\n"]);
 }
 
 /// Writes the line of a status: nothing after a whole report. A failed write leaves out the rest of the line.
@@ -96,22 +109,22 @@ pub fn tell<E: Sink>(err: &mut E, status: &Status)
     ensures untouched { IsDone (kind_of status.now) → err.new ≡ err.old }
     ensures later { (E.state err.old).faults ≤ (E.state err.new).faults }
 {
-    let line: &[u8] = match status {
-        Status::CellRefused(line, fault) => return tell_refused(err, *line, fault),
-        Status::Done(_) => return,
-        Status::Usage(UsageFault::NoCommand) => b"magsym: no command\n",
-        Status::Usage(UsageFault::UnknownCommand) => b"magsym: unknown command\n",
-        Status::Usage(UsageFault::UnknownOption) => b"magsym: unknown option\n",
-        Status::Usage(UsageFault::RepeatedOption) => b"magsym: option given twice\n",
-        Status::Usage(UsageFault::MissingValue) => b"magsym: option needs a value\n",
-        Status::Usage(UsageFault::BadValue) => {
-            b"magsym: value is not a number of 1 to 9 digits\n"
-        }
-        Status::Usage(UsageFault::ExtraWord) => b"magsym: too many words\n",
-        Status::CellTooLong => b"magsym: cell is longer than 262144 bytes\n",
-        Status::ReadFault => b"magsym: reading failed\n",
-        Status::WriteFault(_, _) => b"magsym: writing failed\n",
-        Status::Memory => b"magsym: out of memory\n",
-    };
-    tell_pieces(err, &[line]);
+    match status {
+        Status::CellRefused(line, fault) => tell_refused(err, *line, fault),
+        Status::Done(_) => {}
+        Status::Usage(UsageFault::NoCommand) => tell_text(err, b"no command"),
+        Status::Usage(UsageFault::UnknownCommand) => tell_text(err, b"unknown command"),
+        Status::Usage(UsageFault::UnknownOption) => tell_text(err, b"unknown option"),
+        Status::Usage(UsageFault::RepeatedOption) => tell_text(err, b"option given twice"),
+        Status::Usage(UsageFault::MissingValue) => tell_text(err, b"option needs a value"),
+        Status::Usage(UsageFault::BadValue) => tell_text(
+            err,
+            b"value is not a number of 1 to 9 digits",
+        ),
+        Status::Usage(UsageFault::ExtraWord) => tell_text(err, b"too many words"),
+        Status::CellTooLong => tell_text(err, b"cell is longer than 262144 bytes"),
+        Status::ReadFault => tell_text(err, b"reading failed"),
+        Status::WriteFault(_, _) => tell_text(err, b"writing failed"),
+        Status::Memory => tell_text(err, texts::OUT_OF_MEMORY.as_bytes()),
+    }
 }

@@ -17,7 +17,7 @@ pub add-requires-clause-site : goal.add-requires-clause-site
 add-requires-clause-site c =
     let names = c.args.cell.now.names in
     let number : c.in_ok-number.number ≡ number_of names c.in_ok-name.name.items = c.in_ok-number.ensures.number ∙ ap (λ (ns : List (List ℕ)). number_of ns c.in_ok-name.name.items) c.requires.names in
-    let same : c.deref-2.result.now ≡ c.in_ok-name.name.items = c.deref-2.ensures.value ∙ sym (c.in_ok-name.ensures.items ∙ c.deref.ensures.value) in
+    let same : c.args.atom.now.name ≡ c.in_ok-name.name.items = sym (c.in_ok-name.ensures.items ∙ c.as_bytes.ensures) in
     let more : c.name_species.new.cell.names ≡ with_name names c.in_ok-name.name.items = ap (λ (s : Structure). s.names) c.in_ok-name_species.ensures ∙ ap (with_name names) same in
     record {
       named = is_named names c.name_species.new.cell.names c.in_ok-name.name.items c.in_ok-number.number number more;

@@ -16,7 +16,7 @@ loop-atom-init c =
     let at = first_at c.args.atoms.now c.first-item.result c.requires.some c.first-item.is in
     record {
       cell = c.in_ok-cell.ensures ∙ filled_first m c.args.n c.args.k all b (map atom_view (drop 1 c.args.atoms.now)) at.1 ∙ ap (filled m c.args.n c.args.k all) (sym at.0);
-      names = c.in_ok-names.ensures ∙ ap (λ (w : List ℕ). w ∷ []) c.deref.ensures.value ∙ first_name b ∙ ap names_of (sym at.0);
+      names = c.in_ok-names.ensures ∙ ap (λ (w : List ℕ). w ∷ []) c.as_bytes.ensures ∙ first_name b ∙ ap names_of (sym at.0);
     }
 
 pub add_atom-requires-clause-names : goal.add_atom-requires-clause-names

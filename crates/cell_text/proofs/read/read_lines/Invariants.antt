@@ -1,8 +1,7 @@
 use Rattle.std.proofs.Common.{◌≡◌, ◌+◌, ◌≤◌, ℕ, List, ◌++◌, length}
 use Rattle.plain_text.specs.Text.{lines}
-use Rattle.cell_text.specs.Entries.{contents}
+use Rattle.cell_text.specs.Entries.{state_after}
 use Rattle.cell_text.specs.Rules.{first_fault, cell_fault}
-use Rattle.cell_text.specs.Views.{state_with}
 use Rattle.cell_text.proofs.read.read_lines.Given as goal
 
 -- the lines before, and what the reader makes of them
@@ -11,7 +10,7 @@ invariant-loop-rest l = record {
   before : List (List ℕ);
   whole : before ++ lines l.rest ≡ lines l.text;
   so_far : first_fault before (lines l.rest) ≡ cell_fault l.text;
-  state : l.reader ≡ state_with (length before) (contents before);
+  state : l.reader ≡ state_after before;
   number : l.number ≡ length before + 1;
   short : length before + length l.rest ≤ length l.text;
 }

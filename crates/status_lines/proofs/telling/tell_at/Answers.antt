@@ -1,16 +1,17 @@
-use Rattle.std.proofs.Common.{◌≡◌, subst, ◌∙◌, List, ℕ, ◌++◌, codes, decimal}
-use Rattle.status_lines.specs.Statuses.{fault_line}
+use Rattle.std.proofs.Common.{ap, subst, ◌∙◌, List, ℕ, ◌++◌, codes, decimal}
+use Rattle.status_lines.specs.Statuses.{fault_text}
 use Rattle.status_lines.specs.Telling.{Tells}
-use Rattle.status_lines.proofs.TellingLemmas.{four_pieces}
+use Rattle.status_lines.proofs.TellingLemmas.{line_pieces}
 use Rattle.status_lines.proofs.telling.tell_at.Goals as goal
 
 pub returns-clause-told : goal.returns-clause-told
 returns-clause-told g c =
-    let magsym : List ℕ = c.as_slice.result.now in
     let line : List ℕ = c.as_bytes-line.result.now in
-    let is_line : line ≡ decimal c.args.line = c.as_bytes-line.ensures.value ∙ c.format.ensures.text in
-    let Told : List ℕ → Type 0 = λ line. Tells g.E.Sink.highest_count (g.E.Sink.state c.args.err.now) (g.E.Sink.state c.tell_pieces.new.err) line in
-    subst (λ (a : List ℕ). Told (a ++ decimal c.args.line ++ codes ": " ++ fault_line c.args.fault.now)) c.as_slice.ensures
-    (subst (λ (b : List ℕ). Told (magsym ++ b ++ codes ": " ++ fault_line c.args.fault.now)) is_line
-    (subst (λ (d : List ℕ). Told (magsym ++ line ++ codes ": " ++ d)) c.requires
-    (subst (λ (whole : List ℕ). Told whole) (four_pieces magsym line (codes ": ") c.args.text.now) c.tell_pieces.ensures.told)))
+    let text : List ℕ = c.as_bytes.result.now in
+    let Told : List ℕ → Type 0 = λ whole. Tells g.E.Sink.highest_count (g.E.Sink.state c.args.err.now) (g.E.Sink.state c.tell_pieces.new.err) whole in
+    subst Told
+    (ap (λ (front : List ℕ). front ++ (line ++ (codes ": " ++ (text ++ codes "\n")))) c.as_slice.ensures
+    ∙ ap (λ (number : List ℕ). codes "magsym: line " ++ (number ++ (codes ": " ++ (text ++ codes "\n")))) (c.as_bytes-line.ensures.value ∙ c.format.ensures.text)
+    ∙ ap (λ (said : List ℕ). codes "magsym: line " ++ (decimal c.args.line ++ (codes ": " ++ (said ++ codes "\n")))) (c.as_bytes.ensures.value ∙ c.requires)
+    ∙ line_pieces (codes "magsym: ") (codes "line ") (decimal c.args.line) (codes ": ") (fault_text c.args.fault.now) (codes "\n"))
+    c.tell_pieces.ensures.told

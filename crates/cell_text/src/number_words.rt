@@ -1,0 +1,49 @@
+// Three words read as numbers, and numbers in units of 1/d.
+ghost use Rattle.std.specs.Prelude.{◌≡◌, ◌≤◌, ◌^◌};
+ghost use Rattle.std.specs.List.{list_all};
+ghost use Rattle.ring.specs.Size.{AtMost};
+ghost use Rattle.plain_text.specs.NumberWords.{scaled};
+ghost use Rattle.plain_text.specs.Views.{fraction_of};
+ghost use Rattle.cell_text.specs.Entries.{values, is_billion};
+ghost use Rattle.cell_text.specs.Views.{words_view, numbers_view, ReadsWords};
+
+use crate::fault::CellFault;
+use crate::three::{ThreeNumbers, ThreeWords};
+use exact_num::Int;
+use plain_text::{NumberWord, read_number, times};
+
+/// The numbers that three words spell, or the first rule that one of them breaks.
+#[tactic(auto, unfolding(crate::specs::Lines::word_fault))]
+pub(crate) fn read_numbers(words: ThreeWords) -> Result<ThreeNumbers, CellFault>
+    ensures { ReadsWords (words_view words.entry) (λ f. numbers_view f ≡ values (words_view words.entry)) result }
+{
+    let a = read_number(words.a)?;
+    let b = read_number(words.b)?;
+    let c = read_number(words.c)?;
+    Ok(ThreeNumbers { a, b, c })
+}
+
+/// Whether d times the fraction is at most 10^9 in size; d is a multiple of the denominator.
+fn is_billion(f: &NumberWord, d: u128) -> bool
+    requires { d ≤ 1000000000 }
+    ensures { result ≡ is_billion (scaled d (fraction_of f.now)) }
+{
+    times(f, d).unsigned_abs() <= 1_000_000_000
+}
+
+/// Whether d times each of the three is at most 10^9 in size.
+pub(crate) fn are_billions(numbers: &ThreeNumbers, d: u128) -> bool
+    requires { d ≤ 1000000000 }
+    ensures { result ≡ list_all (λ f. is_billion (scaled d f)) (numbers_view numbers.now) }
+{
+    is_billion(&numbers.a, d) && is_billion(&numbers.b, d) && is_billion(&numbers.c, d)
+}
+
+/// d times the fraction; d is a multiple of the denominator.
+pub(crate) fn whole(f: &NumberWord, d: u128) -> Int
+    requires { d ≤ 1000000000 }
+    ensures value { result ≡ scaled d (fraction_of f.now) }
+    ensures size { AtMost (10 ^ 27) result }
+{
+    Int::new(times(f, d)).unwrap()
+}
