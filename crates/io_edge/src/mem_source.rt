@@ -6,6 +6,7 @@ ghost use Rattle.io_edge.specs.Causes.{HasCause, is_end};
 ghost use Rattle.io_edge.specs.InMemory.{FailsNext, after_call, new_plan};
 
 use crate::calls::Calls;
+use crate::piece::give;
 use crate::source::{Failed, Source};
 use std::alloc::{AllocError, Global};
 use std::marker::Model;
@@ -108,10 +109,7 @@ impl Source for MemSource {
             self.end_is_seen = false;
             return Err(Failed);
         }
-        let left = self.bytes.len() - self.at;
-        let count = self.most.min(buf.len()).min(left);
-        let piece = &self.bytes[self.at..self.at + count];
-        buf[..count].copy_from_slice(piece);
+        let count = give(&self.bytes, self.at, self.most, buf);
         self.at += count;
         self.end_is_seen = count == 0;
         Ok(count)

@@ -52,7 +52,8 @@ pub trait Source {
             ≡ ((state self.old).end_is_seen || (state self.old).read_past_end) };
 }
 
-const CHUNK: usize = 4096;
+/// How many bytes are read at once.
+pub(crate) const CHUNK: usize = 4096;
 
 /// All bytes up to the end of input, of which there may be `limit`.
 ///

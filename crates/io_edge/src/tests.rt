@@ -3,8 +3,8 @@
 ghost use Rattle.std.specs.Prelude.{◌<◌};
 
 use crate::{
-    Bytes, InFault, MemSink, MemSource, OutFault, Source, StdSink, StdSource, read_to_end,
-    write_whole,
+    Bytes, DirShelf, InFault, MemShelf, MemSink, MemSource, OutFault, Shelf, Source, StdSink,
+    StdSource, read_file, read_to_end, write_whole,
 };
 use std::alloc::{AllocError, Global};
 use std::io;
@@ -203,4 +203,73 @@ fn is_cut() -> bool {
 fn a_writer_of_std_is_a_sink(rt: HostRuntime) {
     assert!(rt; is_taken(rt.alloc()));
     assert!(rt; is_cut());
+}
+
+/// A store of two files, of which one was put twice.
+fn filled(alloc: Global, most: usize, fails: u64) -> Result<MemShelf, AllocError>
+    requires { 0 < most }
+{
+    let mut shelf = MemShelf::new(alloc, most, &[fails])?;
+    shelf.put(b"a", b"old")?;
+    shelf.put(b"b", b"xy")?;
+    shelf.put(b"a", INPUT)?;
+    Ok(shelf)
+}
+
+/// What comes of reading the file of this name.
+fn read_named<S: Shelf>(
+    alloc: Global,
+    shelf: &mut S,
+    name: &[u8],
+    limit: u8,
+) -> Result<usize, InFault> {
+    let bytes = read_file(alloc, shelf, name, limit as usize)?;
+    Ok(bytes.as_slice().len())
+}
+
+/// The name, how many bytes a call gives at most, which call fails (0: none), the limit, and how many bytes are read or why not.
+struct FileReading(&'static [u8], usize, u64, u8, Result<usize, InFault>);
+
+#[rattlefmt::skip]
+const FILES: &[FileReading] = &[
+    FileReading(b"a", 9, 0, 9, Ok(5)),
+    FileReading(b"b", 1, 0, 2, Ok(2)),
+    FileReading(b"a", 2, 0, 4, Err(InFault::TooLong)),
+    FileReading(b"c", 2, 0, 9, Err(InFault::ReadFault)),
+    FileReading(b"a", 2, 1, 9, Err(InFault::ReadFault)),
+    FileReading(b"a", 2, 3, 9, Err(InFault::ReadFault)),
+    FileReading(b"a", 2, 6, 9, Ok(5)),
+];
+
+/// The number of the first row that is read otherwise; else how many there are.
+fn first_wrong_file(alloc: Global) -> usize {
+    for i in 0..FILES.len() {
+        let FileReading(name, most, fails, limit, want) = &FILES[i];
+        if *most == 0 {
+            return i;
+        }
+        match filled(alloc, *most, *fails) {
+            Ok(mut shelf) => {
+                if read_named(alloc, &mut shelf, name, *limit) != *want {
+                    return i;
+                }
+            }
+            Err(_) => return i,
+        }
+    }
+    FILES.len()
+}
+
+#[test]
+fn a_file_is_read_or_its_cause_told(rt: HostRuntime) {
+    assert_eq!(rt; first_wrong_file(rt.alloc()), FILES.len());
+}
+
+#[test]
+fn files_of_the_system_are_a_store(rt: HostRuntime) {
+    let mut shelf = DirShelf::new(&rt);
+    let missing = read_named(rt.alloc(), &mut shelf, b"no such file", 9);
+    assert!(rt; missing == Err(InFault::ReadFault));
+    let nameless = read_named(rt.alloc(), &mut shelf, b"\xFF", 9);
+    assert!(rt; nameless == Err(InFault::ReadFault));
 }
