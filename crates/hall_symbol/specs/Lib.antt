@@ -1,0 +1,10 @@
+pub mod Cuts
+pub mod Compositions
+pub mod Symbols
+pub mod TokenForms
+pub mod Rotations
+pub mod Translations
+pub mod Tokens
+pub mod Spelling
+pub mod FaultTexts
+pub mod Views
