@@ -1,0 +1,18 @@
+use Rattle.std.proofs.Common.{◌∙◌, sym, ap, subst, map}
+use Rattle.op_group.specs.Views.{operation_of}
+use Rattle.hall_text.specs.Products.{TooMany}
+use Rattle.hall_text.specs.Splits.{AreRotations}
+use Rattle.hall_text.proofs.SymbolGenerators.{generators_are}
+use Rattle.hall_text.proofs.Closing.{not_too_many}
+use Rattle.hall_text.proofs.group.expand.Goals as goal
+
+pub matrix_operations-requires : goal.matrix_operations-requires
+matrix_operations-requires c = record { rotations = subst AreRotations (sym (ap (map operation_of) c.deref.ensures.value ∙ c.in-Ok.ensures)) (generators_are c.args.symbol.now) }
+
+pub group_of-requires-clause-rotations : goal.group_of-requires-clause-rotations
+group_of-requires-clause-rotations c = subst AreRotations (sym (ap (map operation_of) c.deref-2.ensures.value ∙ c.in-Ok.ensures)) (generators_are c.args.symbol.now)
+
+pub returns-clause-few : goal.returns-clause-few
+returns-clause-few c = λ t.
+    not_too_many (map operation_of c.deref.result.now) (map operation_of c.in-Ok-matrix_operations.reps.items) c.in-Ok-matrix_operations.ensures.value
+    (subst TooMany (sym (ap (map operation_of) c.deref.ensures.value ∙ c.in-Ok.ensures)) t)
