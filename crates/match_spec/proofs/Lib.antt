@@ -1,0 +1,26 @@
+pub mod Laws
+pub mod Groups
+pub mod Sums
+pub mod Wholes
+pub mod Units
+pub mod Absorb
+pub mod Members
+pub mod Moves
+pub mod Origins
+pub mod Pigeon
+pub mod Candidates
+pub mod Homs
+pub mod Firsts
+pub mod Balances
+pub mod Reps
+pub mod Conjugate
+pub mod Invariants
+pub mod Counts
+pub mod Bridge
+pub mod Decide
+pub mod ListedGroups
+pub mod Search
+pub mod Transport
+pub mod Fewness
+pub mod KnownOrigins
+mod KnownValues
