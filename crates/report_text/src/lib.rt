@@ -15,3 +15,4 @@ pub use dataset::dataset_report;
 pub use operation_text::{ops_report, pages_resume};
 pub use orbit_lines::orbit_report;
 pub use primitives::prim_report;
+pub use summary_text::summary_report;
