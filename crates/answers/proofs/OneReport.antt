@@ -29,8 +29,8 @@ use Rattle.operation_text.specs.Pages.{page_text}
 use Rattle.report_text.specs.PrimitiveText.{cell_in_basis_text}
 use Rattle.report_text.specs.DatasetText.{dataset_text}
 use Rattle.report_text.specs.OrbitText.{orbit_text}
-use Rattle.command_words.specs.declared.command.Command.TheVariants.{Symmetry, Primitive, Dataset, Orbits}
-use Rattle.status_lines.specs.declared.status.Kept.TheVariants.{NoBase, Back}
+use Rattle.command_words.specs.declared.command.Command.TheVariants.{Symmetry, Primitive, Dataset, Orbits, Hall, Selfrun}
+use Rattle.report_basis.specs.declared.Kept.TheVariants.{NoBase, Back}
 use Rattle.answers.specs.SymmetryReports.{SymmetryReport}
 use Rattle.answers.specs.PrimitiveReports.{IsPrimitiveReport}
 use Rattle.answers.specs.DatasetReports.{IsDatasetReport}
@@ -151,3 +151,5 @@ one_report c cell Dataset NoBase bytes others h k = absurd h
 one_report c cell Dataset (Back q) bytes others h k = dataset_once c q bytes others cell h k
 one_report c cell Orbits NoBase bytes others h k = absurd h
 one_report c cell Orbits (Back q) bytes others h k = orbits_report_once c q bytes others h k
+one_report c cell Hall kept bytes others h k = absurd h
+one_report c cell (Selfrun seed) kept bytes others h k = absurd h

@@ -1,8 +1,10 @@
 pub mod Answers
 pub mod DatasetReports
 pub mod Findings
+pub mod HallReports
 pub mod OrbitReports
 pub mod PrimitiveReports
 pub mod Reports
 pub mod Spelled
+pub mod SummaryReports
 pub mod SymmetryReports

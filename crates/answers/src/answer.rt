@@ -3,6 +3,7 @@
 ghost use Rattle.std.specs.Prelude.{IfOk};
 ghost use Rattle.crystal_spec.specs.Cells.{IsCell};
 ghost use Rattle.crystal_spec.specs.Crystals.{Structure};
+ghost use Rattle.command_words.specs.Commands.{ReadsCell};
 ghost use Rattle.answers.specs.Answers.{IsAnswer};
 ghost use Rattle.answers.specs.Reports.{HasOneReport};
 ghost use Rattle.answers.specs.Spelled.{IsSpelled};
@@ -13,8 +14,9 @@ use crate::primitive::answer_primitive;
 use crate::symmetry::answer_symmetry;
 use command_words::Command;
 use crystal::{Cell, Steps};
+use hall_text::RowFault;
 use io_edge::Bytes;
-use status_lines::Kept;
+use report_basis::Kept;
 use std::alloc::{AllocError, Global};
 use std::sync::ledger::Ledger;
 
@@ -30,9 +32,12 @@ pub struct Report {
 pub enum Answer {
     /// The whole report that was asked for.
     Report(Report),
+
+    /// The symbol of `hall` has this fault.
+    SymbolRefused(RowFault),
 }
 
-/// What the command answers on a cell that was read. Refuses for want of memory alone.
+/// What a command that reads a cell answers on one that was read. Refuses for want of memory alone.
 ///
 /// No operations are looked for where the primitive cell alone is wanted.
 pub fn answer_of<L: Ledger>(
@@ -41,7 +46,8 @@ pub fn answer_of<L: Ledger>(
     cell: &Cell,
     steps: &mut Steps<L>,
 ) -> Result<Answer, AllocError>
-    requires { IsSpelled cell.now }
+    requires reads { ReadsCell command }
+    requires spelled { IsSpelled cell.now }
     ensures { IfOk result (λ answer. IsAnswer command cell.now answer) }
 {
     match command {
@@ -51,6 +57,7 @@ pub fn answer_of<L: Ledger>(
         Command::Primitive => answer_primitive(alloc, cell),
         Command::Dataset => answer_dataset(alloc, cell, steps),
         Command::Orbits => answer_orbits(alloc, cell, steps),
+        Command::Hall | Command::Selfrun(_) => Err(AllocError),
     }
 }
 

@@ -20,7 +20,7 @@ use std::alloc::{AllocError, Global};
 use std::sync::ledger::Ledger;
 
 /// How many symmetry operations the cell has, of whose primitive cell all operations were found.
-fn order_of(alloc: Global, found: &Found) -> Result<u64, AllocError>
+pub(crate) fn order_of(alloc: Global, found: &Found) -> Result<u64, AllocError>
     requires group { ListsAll found.now.made.cell found.now.group.operations }
     ensures { IfOk result (λ order. (c : Structure) → IsFound c true found.now.made found.now.group → IsOrder c order) }
 {

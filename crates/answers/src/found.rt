@@ -1,7 +1,7 @@
 // What is found of a cell before its report: its primitive cell, and the symmetry operations there.
 
 ghost use Rattle.std.specs.Prelude.{◌≡◌, Bool, IfOk};
-ghost use Rattle.status_lines.specs.declared.status.Kept.TheVariants.{Back};
+ghost use Rattle.report_basis.specs.declared.Kept.TheVariants.{Back};
 ghost use Rattle.answers.specs.Findings.{IsReducedPrimitive, IsFound};
 ghost use Rattle.answers.specs.Spelled.{IsSpelled};
 
@@ -9,7 +9,7 @@ use crystal::{Cell, Steps};
 use mag_ops::full_group;
 use op_group::OpList;
 use prim_cell::{Primitive, primitive};
-use status_lines::Kept;
+use report_basis::Kept;
 use std::alloc::{AllocError, Global};
 use std::sync::ledger::Ledger;
 

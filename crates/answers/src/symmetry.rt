@@ -13,8 +13,8 @@ use crate::answer::{Answer, Report};
 use crate::found::{Found, found_of};
 use crystal::{Cell, Steps};
 use mag_ops::in_cell;
+use report_basis::Kept;
 use report_text::ops_report;
-use status_lines::Kept;
 use std::alloc::{AllocError, Global};
 use std::sync::ledger::Ledger;
 

@@ -2,9 +2,9 @@
 use Rattle.std.proofs.Common.{◌≡◌, ◌∷◌, [], refl}
 use Rattle.std.specs.Prelude.{codes, true, false, Some, None}
 use Rattle.std.specs.declared.result.Result.TheVariants.{Ok, Err}
-use Rattle.command_words.specs.declared.command.Command.TheVariants.{Symmetry, Primitive, Dataset, Orbits}
-use Rattle.command_words.specs.declared.command.UsageFault.TheVariants.{NoCommand, UnknownCommand, UnknownOption, RepeatedOption, MissingValue, BadValue, ExtraWord}
-use Rattle.command_words.specs.Commands.{command}
+use Rattle.command_words.specs.declared.command.Command.TheVariants.{Symmetry, Primitive, Dataset, Orbits, Hall, Selfrun}
+use Rattle.command_words.specs.declared.command.UsageFault.TheVariants.{NoCommand, UnknownCommand, UnknownOption, RepeatedOption, MissingValue, BadValue, MissingWord, ExtraWord}
+use Rattle.command_words.specs.Commands.{command, argument}
 
 -- ---- words that ask for a command
 
@@ -34,6 +34,22 @@ dataset_alone = refl
 
 orbits_alone : command (codes "orbits" ∷ []) ≡ Ok Orbits
 orbits_alone = refl
+
+symbol : command (codes "hall" ∷ codes "-P 4 2!" ∷ []) ≡ Ok Hall
+symbol = refl
+
+symbol_is_the_argument : argument (codes "hall" ∷ codes "-P 4 2!" ∷ []) ≡ codes "-P 4 2!"
+symbol_is_the_argument = refl
+
+-- a symbol may begin with anything, and may be empty
+symbol_as_option : command (codes "hall" ∷ codes "--skip" ∷ []) ≡ Ok Hall
+symbol_as_option = refl
+
+empty_symbol : command (codes "hall" ∷ codes "" ∷ []) ≡ Ok Hall
+empty_symbol = refl
+
+seed : command (codes "selfrun" ∷ codes "000000001" ∷ []) ≡ Ok (Selfrun 1)
+seed = refl
 
 -- ---- words that ask for nothing
 
@@ -95,3 +111,19 @@ word_after_dataset = refl
 
 option_after_orbits : command (codes "orbits" ∷ codes "--skip" ∷ codes "1" ∷ []) ≡ Err ExtraWord
 option_after_orbits = refl
+
+no_symbol : command (codes "hall" ∷ []) ≡ Err MissingWord
+no_symbol = refl
+
+two_symbols : command (codes "hall" ∷ codes "P" ∷ codes "1" ∷ []) ≡ Err ExtraWord
+two_symbols = refl
+
+no_seed : command (codes "selfrun" ∷ []) ≡ Err MissingWord
+no_seed = refl
+
+seed_of_ten_digits : command (codes "selfrun" ∷ codes "1234567890" ∷ []) ≡ Err BadValue
+seed_of_ten_digits = refl
+
+-- the word too many is told before the bad seed
+bad_seed_and_more : command (codes "selfrun" ∷ codes "x" ∷ codes "1" ∷ []) ≡ Err ExtraWord
+bad_seed_and_more = refl

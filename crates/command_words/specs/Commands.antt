@@ -5,11 +5,20 @@
 --   asked o              what the options ask for, where no word is left
 --   options o words      what the options ask for with all these words more, or the first fault from the left
 --   alone c words        the command c, behind whose name no word may stand
+--   first_word words     the first of the words
+--   argument words       the word behind the command's name
+--   one_more wanted words   what is wanted, where one word is left
+--   seeded word          the run from a seed
+--   from_seed words      the run from the seed that is the one word left
+--   command_name word    the command that a word names
+--   behind_name name words   what the words behind the name ask for
 --   command words        the command, or the first fault from the left
+--   ReadsCell command    the command reads a cell from the input
 -- The word behind `--skip` or `--take` is its value, whatever it is. An option that was given before is told as such also
 -- where it has no value.
-use Rattle.std.specs.Prelude.{ℕ, Bool, true, false, List, [], ◌∷◌, nat_eq, if◌then◌else◌, codes}
+use Rattle.std.specs.Prelude.{ℕ, Bool, true, false, List, [], ◌∷◌, drop, nat_eq, if◌then◌else◌, codes}
 use Rattle.std.specs.Cmp.Lexicographic.{pointwise}
+use Rattle.std.specs.declared.option.Option.{Option}
 use Rattle.std.specs.declared.option.Option.TheVariants.{Some, None}
 use Rattle.std.specs.declared.result.Result.{Result}
 use Rattle.std.specs.declared.result.Result.TheVariants.{Ok, Err}
@@ -17,9 +26,10 @@ use Rattle.plain_text.specs.Digits.{is_count, value_of_digits}
 use Rattle.command_words.specs.declared.options.Awaited.TheVariants.{AnyOption, ValueOfSkip, ValueOfTake}
 use Rattle.command_words.specs.declared.options.Options.{Options}
 use Rattle.command_words.specs.declared.command.Command.{Command}
-use Rattle.command_words.specs.declared.command.Command.TheVariants.{Symmetry, Primitive, Dataset, Orbits}
+use Rattle.command_words.specs.declared.command.Command.TheVariants.{Symmetry, Primitive, Dataset, Orbits, Hall, Selfrun}
+use Rattle.command_words.specs.declared.command.CommandName.{CommandName}
 use Rattle.command_words.specs.declared.command.UsageFault.{UsageFault}
-use Rattle.command_words.specs.declared.command.UsageFault.TheVariants.{NoCommand, UnknownCommand, UnknownOption, RepeatedOption, MissingValue, BadValue, ExtraWord}
+use Rattle.command_words.specs.declared.command.UsageFault.TheVariants.{NoCommand, UnknownCommand, UnknownOption, RepeatedOption, MissingValue, BadValue, MissingWord, ExtraWord}
 
 -- the two words have the same bytes
 abbrev pub same_word : List ℕ → List ℕ → Bool
@@ -83,12 +93,59 @@ abbrev pub alone : Command → List (List ℕ) → Result Command UsageFault
 alone c [] = Ok c
 alone c (word ∷ later) = Err ExtraWord
 
+-- the first of the words that are left; no bytes where there is none
+abbrev pub first_word : List (List ℕ) → List ℕ
+first_word [] = []
+first_word (word ∷ later) = word
+
+-- the word behind the name
+abbrev pub argument : List (List ℕ) → List ℕ
+argument words = first_word (drop 1 words)
+
+-- one word is left: a missing one and those too many are told before what is wrong with it
+abbrev pub one_more : Result Command UsageFault → List (List ℕ) → Result Command UsageFault
+one_more wanted [] = Err MissingWord
+one_more wanted (word ∷ []) = wanted
+one_more wanted (word ∷ other ∷ later) = Err ExtraWord
+
+-- the seed has 1 to 9 digits
+abbrev pub seeded : List ℕ → Result Command UsageFault
+seeded word = elim (count_of word) [ Ok seed ↦ Ok (Selfrun seed) | Err fault ↦ Err fault ]
+
+-- the run from the seed that is the one word left
+abbrev pub from_seed : List (List ℕ) → Result Command UsageFault
+from_seed words = one_more (seeded (first_word words)) words
+
+-- the command that a word names
+abbrev pub command_name : List ℕ → Option CommandName
+command_name word =
+    if same_word word (codes "symmetry") then Some CommandName.Symmetry
+    else if same_word word (codes "primitive") then Some CommandName.Primitive
+    else if same_word word (codes "dataset") then Some CommandName.Dataset
+    else if same_word word (codes "orbits") then Some CommandName.Orbits
+    else if same_word word (codes "hall") then Some CommandName.Hall
+    else if same_word word (codes "selfrun") then Some CommandName.Selfrun
+    else None
+
+-- what the words behind the name ask for
+abbrev pub behind_name : CommandName → List (List ℕ) → Result Command UsageFault
+behind_name CommandName.Symmetry words = options no_options words
+behind_name CommandName.Primitive words = alone Primitive words
+behind_name CommandName.Dataset words = alone Dataset words
+behind_name CommandName.Orbits words = alone Orbits words
+behind_name CommandName.Hall words = one_more (Ok Hall) words
+behind_name CommandName.Selfrun words = from_seed words
+
 -- the first word is the name
 abbrev pub command : List (List ℕ) → Result Command UsageFault
 command [] = Err NoCommand
-command (name ∷ later) =
-    if same_word name (codes "symmetry") then options no_options later
-    else if same_word name (codes "primitive") then alone Primitive later
-    else if same_word name (codes "dataset") then alone Dataset later
-    else if same_word name (codes "orbits") then alone Orbits later
-    else Err UnknownCommand
+command (name ∷ later) = elim (command_name name) [ Some named ↦ behind_name named later | None ↦ Err UnknownCommand ]
+
+-- `hall` and `selfrun` read no input
+abbrev pub ReadsCell : Command → Type 0
+ReadsCell (Symmetry time skip take) = Unit {0}
+ReadsCell Primitive = Unit {0}
+ReadsCell Dataset = Unit {0}
+ReadsCell Orbits = Unit {0}
+ReadsCell Hall = ⊥
+ReadsCell (Selfrun seed) = ⊥

@@ -1,7 +1,7 @@
 ghost use Rattle.std.specs.Prelude.{◌≡◌, drop};
-ghost use Rattle.command_words.specs.Commands.{command, alone, no_options, options};
+ghost use Rattle.command_words.specs.Commands.{command, command_name, behind_name, alone, argument, from_seed, no_options, one_more, options, seeded};
 
-use crate::options::Options;
+use crate::options::{Options, count};
 use crate::words::Words;
 
 /// What the words ask for.
@@ -23,6 +23,12 @@ pub enum Command {
 
     /// The orbits of the atoms, and their site-symmetry groups.
     Orbits,
+
+    /// The operations of the group of a Hall symbol, which is the one further word.
+    Hall,
+
+    /// The summary of the cell that this seed generates.
+    Selfrun(u32),
 }
 
 /// Why the words ask for nothing: the first fault from the left.
@@ -43,8 +49,11 @@ pub enum UsageFault {
     /// The last word is an option that needs a value.
     MissingValue,
 
-    /// The value of an option does not have 1 to 9 digits and nothing else.
+    /// The value of an option, or the seed, does not have 1 to 9 digits and nothing else.
     BadValue,
+
+    /// The symbol or the seed is missing.
+    MissingWord,
 
     /// There are words behind those that the command takes.
     ExtraWord,
@@ -71,6 +80,95 @@ fn alone(command: Command, words: &Words) -> Result<Command, UsageFault>
     Ok(command)
 }
 
+/// The word behind the command's name; no bytes where there is none.
+pub fn argument(words: &Words) -> &[u8]
+    ensures { result.now ≡ argument words.now }
+{
+    if words.count() < 2 {
+        return &[];
+    }
+    words.word(1)
+}
+
+/// What is wanted, where one further word stands behind the command's name.
+fn one_more(wanted: Result<Command, UsageFault>, words: &Words) -> Result<Command, UsageFault>
+    ensures { result ≡ one_more wanted (drop 1 words.now) }
+{
+    if words.count() < 2 {
+        return Err(UsageFault::MissingWord);
+    }
+    if words.count() > 2 {
+        return Err(UsageFault::ExtraWord);
+    }
+    wanted
+}
+
+/// The run from a seed of 1 to 9 digits.
+fn seeded(word: &[u8]) -> Result<Command, UsageFault>
+    ensures { result ≡ seeded word.now }
+{
+    let seed = count(word)?;
+    Ok(Command::Selfrun(seed))
+}
+
+/// The run from the seed that is the one further word.
+fn from_seed(words: &Words) -> Result<Command, UsageFault>
+    ensures { result ≡ from_seed (drop 1 words.now) }
+{
+    let run = seeded(argument(words));
+    one_more(run, words)
+}
+
+/// The command that a word names.
+#[derive(Clone, Copy)]
+enum CommandName {
+    Symmetry,
+    Primitive,
+    Dataset,
+    Orbits,
+    Hall,
+    Selfrun,
+}
+
+/// The command that the word names, if there is one.
+fn command_name(word: &[u8]) -> Option<CommandName>
+    ensures { result ≡ command_name word.now }
+{
+    if word == b"symmetry".as_slice() {
+        return Some(CommandName::Symmetry);
+    }
+    if word == b"primitive".as_slice() {
+        return Some(CommandName::Primitive);
+    }
+    if word == b"dataset".as_slice() {
+        return Some(CommandName::Dataset);
+    }
+    if word == b"orbits".as_slice() {
+        return Some(CommandName::Orbits);
+    }
+    if word == b"hall".as_slice() {
+        return Some(CommandName::Hall);
+    }
+    if word == b"selfrun".as_slice() {
+        return Some(CommandName::Selfrun);
+    }
+    None
+}
+
+/// What the words behind the name ask for.
+fn behind_name(name: CommandName, words: &Words) -> Result<Command, UsageFault>
+    ensures { result ≡ behind_name name (drop 1 words.now) }
+{
+    match name {
+        CommandName::Symmetry => read_options(words),
+        CommandName::Primitive => alone(Command::Primitive, words),
+        CommandName::Dataset => alone(Command::Dataset, words),
+        CommandName::Orbits => alone(Command::Orbits, words),
+        CommandName::Hall => one_more(Ok(Command::Hall), words),
+        CommandName::Selfrun => from_seed(words),
+    }
+}
+
 /// What the words ask for, or their first fault from the left. It takes no memory.
 pub fn read_words(words: &Words) -> Result<Command, UsageFault>
     ensures { result ≡ command words.now }
@@ -78,18 +176,8 @@ pub fn read_words(words: &Words) -> Result<Command, UsageFault>
     if words.count() == 0 {
         return Err(UsageFault::NoCommand);
     }
-    let name = words.word(0);
-    if name == b"symmetry".as_slice() {
-        return read_options(words);
+    match command_name(words.word(0)) {
+        Some(name) => behind_name(name, words),
+        None => Err(UsageFault::UnknownCommand),
     }
-    if name == b"primitive".as_slice() {
-        return alone(Command::Primitive, words);
-    }
-    if name == b"dataset".as_slice() {
-        return alone(Command::Dataset, words);
-    }
-    if name == b"orbits".as_slice() {
-        return alone(Command::Orbits, words);
-    }
-    Err(UsageFault::UnknownCommand)
 }

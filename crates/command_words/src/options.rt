@@ -29,7 +29,7 @@ pub(crate) struct Options {
 }
 
 /// The value of 1 to 9 digits.
-fn count(word: &[u8]) -> Result<u32, UsageFault>
+pub(crate) fn count(word: &[u8]) -> Result<u32, UsageFault>
     ensures { result ≡ count_of word.now }
 {
     plain_text::count(word).ok_or(UsageFault::BadValue)

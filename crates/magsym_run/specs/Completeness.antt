@@ -1,19 +1,47 @@
 -- When a run has to write the whole report.
---   IsAnswerable ws s   the words ask for a command, the input spells a cell, and no device fails
+--   SpellsCell s              the input spells a cell and does not fail
+--   HasGroup word             the word spells a Hall symbol of at most 48 matrices
+--   IsThere request word s    what the command works on is there
+--   IsAnswerable ws s         the words ask for a command, what it works on is there, and the output does not fail
 use Rattle.std.specs.Prelude.{◌≡◌, ◌≤◌, ℕ, List, length, Some}
+use Rattle.std.specs.declared.result.Result.TheVariants.{Ok}
 use Rattle.io_edge.specs.Causes.{Rose}
 use Rattle.crystal_spec.specs.Crystals.{Structure}
 use Rattle.cell_text.specs.CellFile.{Spells}
-use Rattle.magsym_run.specs.Outcomes.{Streams, IsAsked}
+use Rattle.hall_symbol.specs.Symbols as hall
+use Rattle.hall_symbol.specs.Spelling as spelling
+use Rattle.hall_text.specs.Products.{TooMany}
+use Rattle.command_words.specs.declared.command.Command.{Command}
+use Rattle.command_words.specs.declared.command.Command.TheVariants.{Symmetry, Primitive, Dataset, Orbits, Hall, Selfrun}
+use Rattle.command_words.specs.Commands.{command, argument}
+use Rattle.magsym_run.specs.Outcomes.{Streams}
 
--- The words ask for a command; the input tells its bytes, which are at most 262,144 and spell a cell; and neither the input
--- nor the output failed.
-pub record IsAnswerable (ws : List (List ℕ)) (s : Streams) : Type 0 where
-  pub asked : IsAsked ws
+-- the input tells its bytes, which are at most 262,144 and spell a cell, and it did not fail
+pub record SpellsCell (s : Streams) : Type 0 where
   pub text : List ℕ
   pub is_input : s.input.left ≡ Some text
   pub short : length text ≤ 262144
   pub cell : Structure
   pub spelled : Spells text cell
   pub input_works : Rose s.in_highest s.input.faults s.input_after.faults → ⊥
+
+-- the word spells a symbol, whose products have at most 48 different matrices
+pub record HasGroup (word : List ℕ) : Type 0 where
+  pub symbol : hall.HallSymbol
+  pub spelled : spelling.Spells word symbol
+  pub few : TooMany (hall.generators symbol) → ⊥
+
+-- the cell of the input, or the group of the word; a seed always generates a cell
+abbrev pub IsThere : Command → List ℕ → Streams → Type 0
+IsThere (Symmetry time skip most) word s = SpellsCell s
+IsThere Primitive word s = SpellsCell s
+IsThere Dataset word s = SpellsCell s
+IsThere Orbits word s = SpellsCell s
+IsThere Hall word s = HasGroup word
+IsThere (Selfrun seed) word s = Unit {0}
+
+pub record IsAnswerable (ws : List (List ℕ)) (s : Streams) : Type 0 where
+  pub request : Command
+  pub asked : command ws ≡ Ok request
+  pub there : IsThere request (argument ws) s
   pub output_works : Rose s.out_highest s.output.faults s.output_after.faults → ⊥

@@ -3,14 +3,16 @@ use Rattle.std.proofs.Common.{◌≡◌, ◌∷◌, [], map, refl}
 use Rattle.std.specs.Prelude.{codes}
 use Rattle.std.specs.Fmt.{digits}
 use Rattle.cell_text.specs.declared.fault.CellFault.TheVariants.{NotMagcell, BadByte, BadLine, BadNumber, NumberRange, ZeroDenominator, MetricTwice, MetricMissing, MetricRange, NotPositive, PositionRange, MomentRange, TooManyAtoms, NoAtom, SamePlace, NoEnd, AfterEnd}
-use Rattle.command_words.specs.declared.command.UsageFault.TheVariants.{NoCommand, UnknownCommand, UnknownOption, RepeatedOption, MissingValue, BadValue, ExtraWord}
-use Rattle.status_lines.specs.declared.status.Kept.TheVariants.{NoBase}
-use Rattle.status_lines.specs.declared.status.Status.TheVariants.{Done, Usage, CellTooLong, CellRefused, ReadFault, WriteFault, Memory}
+use Rattle.command_words.specs.declared.command.UsageFault.TheVariants.{NoCommand, UnknownCommand, UnknownOption, RepeatedOption, MissingValue, BadValue, MissingWord, ExtraWord}
+use Rattle.hall_symbol.specs.declared.fault.HallFault.TheVariants.{Empty, BadToken}
+use Rattle.hall_text.specs.declared.fault.RowFault.TheVariants.{Symbol, TooManyMatrices}
+use Rattle.report_basis.specs.declared.Kept.TheVariants.{NoBase}
+use Rattle.status_lines.specs.declared.status.Status.TheVariants.{Done, Usage, CellTooLong, CellRefused, SymbolRefused, ReadFault, WriteFault, Memory}
 use Rattle.status_lines.specs.Statuses.{number_of, line_of}
 
 -- ---- exit statuses
 
-numbers : map number_of (Done NoBase ∷ Usage NoCommand ∷ CellTooLong ∷ CellRefused 1 NotMagcell ∷ ReadFault ∷ WriteFault 0 NoBase ∷ Memory ∷ []) ≡ 0 ∷ 2 ∷ 3 ∷ 3 ∷ 5 ∷ 6 ∷ 7 ∷ []
+numbers : map number_of (Done NoBase ∷ Usage NoCommand ∷ CellTooLong ∷ CellRefused 1 NotMagcell ∷ SymbolRefused TooManyMatrices ∷ ReadFault ∷ WriteFault 0 NoBase ∷ Memory ∷ []) ≡ 0 ∷ 2 ∷ 3 ∷ 3 ∷ 4 ∷ 5 ∷ 6 ∷ 7 ∷ []
 numbers = refl
 
 -- ---- lines
@@ -35,6 +37,9 @@ line_of_missing_value = refl
 
 line_of_bad_value : line_of (Usage BadValue) ≡ codes "magsym: value is not a number of 1 to 9 digits\n"
 line_of_bad_value = refl
+
+line_of_missing_word : line_of (Usage MissingWord) ≡ codes "magsym: command needs one more word\n"
+line_of_missing_word = refl
 
 line_of_extra_word : line_of (Usage ExtraWord) ≡ codes "magsym: too many words\n"
 line_of_extra_word = refl
@@ -109,6 +114,16 @@ line_of_no_end = refl
 line_of_after_end : line_of (CellRefused 5 AfterEnd) ≡ codes "magsym: line 5: text after end\n"
 unfolding digits
 line_of_after_end = refl
+
+line_of_empty_symbol : line_of (SymbolRefused (Symbol Empty)) ≡ codes "magsym: symbol: symbol is empty\n"
+line_of_empty_symbol = refl
+
+line_of_bad_token : line_of (SymbolRefused (Symbol (BadToken 12))) ≡ codes "magsym: symbol: token 12 has no known form\n"
+unfolding digits
+line_of_bad_token = refl
+
+line_of_many_matrices : line_of (SymbolRefused TooManyMatrices) ≡ codes "magsym: symbol: more than 48 matrices\n"
+line_of_many_matrices = refl
 
 line_of_read_fault : line_of ReadFault ≡ codes "magsym: reading failed\n"
 line_of_read_fault = refl

@@ -80,3 +80,9 @@ line_pieces m l n c t e =
 pub five_joined : (a b c d e zs : List ℕ) → a ++ (b ++ (c ++ (d ++ (e ++ zs)))) ≡ (a ++ b ++ c ++ d ++ e) ++ zs
 five_joined a b c d e zs =
     sym (append_assoc a b (c ++ (d ++ (e ++ zs)))) ∙ sym (append_assoc (a ++ b) c (d ++ (e ++ zs))) ∙ sym (append_assoc (a ++ b ++ c) d (e ++ zs)) ∙ sym (append_assoc (a ++ b ++ c ++ d) e zs)
+
+-- the pieces of a line on a symbol: what stands in front, a text in three pieces, and the end
+pub text_pieces : (m f d b e : List ℕ) → m ++ (f ++ (d ++ (b ++ (e ++ [])))) ≡ m ++ ((f ++ d ++ b) ++ e)
+text_pieces m f d b e =
+    ap (λ zs. m ++ (f ++ (d ++ (b ++ zs)))) (append-nil e)
+    ∙ ap (λ zs. m ++ zs) (sym (append_assoc f d (b ++ e)) ∙ sym (append_assoc (f ++ d) b e))

@@ -7,7 +7,7 @@
 --   IsDoneOrMemory kind the whole report is written, or memory was wanting
 -- Our own.
 use Rattle.status_lines.specs.declared.status.Status.{Status}
-use Rattle.status_lines.specs.declared.status.Status.TheVariants.{Done, Usage, CellTooLong, CellRefused, ReadFault, WriteFault, Memory}
+use Rattle.status_lines.specs.declared.status.Status.TheVariants.{Done, Usage, CellTooLong, CellRefused, SymbolRefused, ReadFault, WriteFault, Memory}
 
 -- the whole report is written; the writing of one failed; the words are outside the rule; what was read is refused, or could
 -- not be read; memory was wanting
@@ -24,6 +24,7 @@ kind_of (WriteFault written kept) = cut
 kind_of (Usage fault) = usage
 kind_of CellTooLong = refused
 kind_of (CellRefused line fault) = refused
+kind_of (SymbolRefused fault) = refused
 kind_of ReadFault = refused
 kind_of Memory = wanting
 

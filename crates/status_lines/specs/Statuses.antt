@@ -5,18 +5,20 @@
 use Rattle.std.specs.Prelude.{ℕ, List, [], ◌∷◌, ◌++◌, codes, decimal}
 use Rattle.plain_text.specs.declared.texts.TheConstants.{BAD_NUMBER, NUMBER_RANGE, ZERO_DENOMINATOR}
 use Rattle.cell_text.specs.declared.texts.TheConstants.{NOT_MAGCELL, BAD_BYTE, BAD_LINE, METRIC_TWICE, METRIC_MISSING, METRIC_RANGE, NOT_POSITIVE, POSITION_RANGE, MOMENT_RANGE, TOO_MANY_ATOMS, NO_ATOM, BEFORE_ATOMS, BETWEEN_ATOMS, BEHIND_ATOMS, NO_END, AFTER_END, OUT_OF_MEMORY}
+use Rattle.hall_text.specs.RowTexts.{row_text}
 use Rattle.cell_text.specs.declared.fault.CellFault.{CellFault}
 use Rattle.cell_text.specs.declared.fault.CellFault.TheVariants.{NotMagcell, BadByte, BadLine, BadNumber, NumberRange, ZeroDenominator, MetricTwice, MetricMissing, MetricRange, NotPositive, PositionRange, MomentRange, TooManyAtoms, NoAtom, SamePlace, NoEnd, AfterEnd}
 use Rattle.command_words.specs.declared.command.UsageFault.{UsageFault}
-use Rattle.command_words.specs.declared.command.UsageFault.TheVariants.{NoCommand, UnknownCommand, UnknownOption, RepeatedOption, MissingValue, BadValue, ExtraWord}
+use Rattle.command_words.specs.declared.command.UsageFault.TheVariants.{NoCommand, UnknownCommand, UnknownOption, RepeatedOption, MissingValue, BadValue, MissingWord, ExtraWord}
 use Rattle.status_lines.specs.declared.status.Status.{Status}
-use Rattle.status_lines.specs.declared.status.Status.TheVariants.{Done, Usage, CellTooLong, CellRefused, ReadFault, WriteFault, Memory}
+use Rattle.status_lines.specs.declared.status.Status.TheVariants.{Done, Usage, CellTooLong, CellRefused, SymbolRefused, ReadFault, WriteFault, Memory}
 
 abbrev pub number_of : Status → ℕ
 number_of (Done kept) = 0
 number_of (Usage fault) = 2
 number_of CellTooLong = 3
 number_of (CellRefused line fault) = 3
+number_of (SymbolRefused fault) = 4
 number_of ReadFault = 5
 number_of (WriteFault written kept) = 6
 number_of Memory = 7
@@ -32,6 +34,7 @@ usage_line UnknownOption = told (codes "unknown option")
 usage_line RepeatedOption = told (codes "option given twice")
 usage_line MissingValue = told (codes "option needs a value")
 usage_line BadValue = told (codes "value is not a number of 1 to 9 digits")
+usage_line MissingWord = told (codes "command needs one more word")
 usage_line ExtraWord = told (codes "too many words")
 
 -- The texts stand in cell_text (`src/texts.rt`) and plain_text, each once; atoms are counted from 1.
@@ -59,6 +62,7 @@ line_of (Done kept) = []
 line_of (Usage fault) = usage_line fault
 line_of CellTooLong = told (codes "cell is longer than 262144 bytes")
 line_of (CellRefused line fault) = told (codes "line " ++ decimal line ++ codes ": " ++ fault_text fault)
+line_of (SymbolRefused fault) = told (codes "symbol: " ++ row_text fault)
 line_of ReadFault = told (codes "reading failed")
 line_of (WriteFault written kept) = told (codes "writing failed")
 line_of Memory = told OUT_OF_MEMORY.now

@@ -8,5 +8,6 @@
 mod status;
 mod telling;
 
-pub use status::{Kept, Status};
+pub use report_basis::Kept;
+pub use status::Status;
 pub use telling::tell;

@@ -3,18 +3,8 @@ ghost use Rattle.status_lines.specs.Statuses.{number_of};
 
 use cell_text::CellFault;
 use command_words::UsageFault;
-use exact_num::Int;
-use matrix3::Mat3;
-
-/// The basis that a report speaks of.
-#[derive(Clone, Copy, Debug, PartialEq, Eq)]
-pub enum Kept {
-    /// The report speaks of no basis but that of the input.
-    NoBase,
-
-    /// The report speaks of the basis to which Q = P⁻¹ takes coordinates, where P has its vectors as columns.
-    Back(Mat3<Int>),
-}
+use hall_text::RowFault;
+use report_basis::Kept;
 
 /// How a run ended.
 #[derive(Clone, Copy, Debug, PartialEq, Eq)]
@@ -30,6 +20,9 @@ pub enum Status {
 
     /// The line with this number, from 1, is the first of the input that breaks a rule of the cell file.
     CellRefused(u32, CellFault),
+
+    /// The symbol of `hall` has this fault.
+    SymbolRefused(RowFault),
 
     /// The input could not be read to its end.
     ReadFault,
@@ -50,6 +43,7 @@ impl Status {
             Status::Done(_) => 0,
             Status::Usage(_) => 2,
             Status::CellTooLong | Status::CellRefused(_, _) => 3,
+            Status::SymbolRefused(_) => 4,
             Status::ReadFault => 5,
             Status::WriteFault(_, _) => 6,
             Status::Memory => 7,

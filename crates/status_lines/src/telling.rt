@@ -1,14 +1,16 @@
 ghost use Rattle.std.specs.Prelude.{◌≡◌, ◌≤◌, ◌++◌, map, codes, decimal};
 ghost use Rattle.std.specs.List.{concat};
 ghost use Rattle.status_lines.specs.Telling.{Tells};
-ghost use Rattle.status_lines.specs.declared.status.Status.TheVariants.{CellRefused};
+ghost use Rattle.status_lines.specs.declared.status.Status.TheVariants.{CellRefused, SymbolRefused};
 ghost use Rattle.cell_text.specs.declared.fault.CellFault.TheVariants.{SamePlace};
+ghost use Rattle.hall_symbol.specs.FaultTexts.{digits_of};
 ghost use Rattle.status_lines.specs.StatusKinds.{kind_of, IsDone};
 ghost use Rattle.status_lines.specs.Statuses.{told, fault_text, line_of};
 
 use crate::status::Status;
 use cell_text::{CellFault, texts};
 use command_words::UsageFault;
+use hall_text::RowFault;
 use io_edge::{Sink, write_whole};
 use itoa::Buffer;
 
@@ -103,6 +105,36 @@ fn tell_text<E: Sink>(err: &mut E, text: &[u8])
     tell_pieces(err, &[b"magsym: ".as_slice(), text, b"\n"]);
 }
 
+/// The decimal digits of the number, none where there is no number.
+fn digits<'b>(number: Option<u32>, buffer: &'b mut Buffer) -> &'b [u8]
+    ensures { result.now ≡ digits_of number }
+{
+    match number {
+        Some(number) => buffer.format(number).as_bytes(),
+        None => &[],
+    }
+}
+
+/// Writes the line on a symbol that is refused.
+fn tell_symbol<E: Sink>(err: &mut E, fault: &RowFault)
+    ensures told { Tells E.highest_count (E.state err.old) (E.state err.new) (line_of (SymbolRefused fault.now)) }
+    ensures later { (E.state err.old).faults ≤ (E.state err.new).faults }
+{
+    let text = fault.text();
+    let mut buffer = Buffer::new();
+    let number = digits(text.number, &mut buffer);
+    tell_pieces(
+        err,
+        &[
+            b"magsym: symbol: ".as_slice(),
+            text.front.as_bytes(),
+            number,
+            text.back.as_bytes(),
+            b"\n",
+        ],
+    );
+}
+
 /// Writes the line of a status: nothing after a whole report. A failed write leaves out the rest of the line.
 pub fn tell<E: Sink>(err: &mut E, status: &Status)
     ensures told { Tells E.highest_count (E.state err.old) (E.state err.new) (line_of status.now) }
@@ -122,6 +154,8 @@ pub fn tell<E: Sink>(err: &mut E, status: &Status)
             b"value is not a number of 1 to 9 digits",
         ),
         Status::Usage(UsageFault::ExtraWord) => tell_text(err, b"too many words"),
+        Status::Usage(UsageFault::MissingWord) => tell_text(err, b"command needs one more word"),
+        Status::SymbolRefused(fault) => tell_symbol(err, fault),
         Status::CellTooLong => tell_text(err, b"cell is longer than 262144 bytes"),
         Status::ReadFault => tell_text(err, b"reading failed"),
         Status::WriteFault(_, _) => tell_text(err, b"writing failed"),

@@ -5,10 +5,12 @@
 // `first_wrong` goes through the rows, and what a run owns stands in `holds_over` alone.
 mod dataset;
 mod faults;
+mod hall;
 mod oblique;
 mod orbits;
 mod pages;
 mod primitive;
+mod selfrun;
 mod symmetry;
 mod usage;
 
@@ -88,7 +90,7 @@ enum Ends {
     TellFails(u64, u8, &'static [u8]),
 }
 
-/// The words, the input, and how the run over them has to end.
+/// The words, parted by commas, the input, and how the run over them has to end.
 struct Row(&'static str, &'static [u8], Ends);
 
 /// The input, the output and the error stream of a run.
@@ -99,10 +101,13 @@ struct Streams {
     err: MemSink,
 }
 
-/// These words, which spaces part.
+/// These words, which commas part; none where the text is empty.
 fn asked(alloc: Global, words: &str) -> Result<Words, AllocError> {
     let mut asked = Words::new(alloc);
-    for word in words.split_whitespace() {
+    if words.is_empty() {
+        return Ok(asked);
+    }
+    for word in words.split(',') {
         asked.push(Bytes::copy(alloc, word.as_bytes())?)?;
     }
     Ok(asked)

@@ -9,7 +9,7 @@ use std::alloc::{AllocError, Global};
 #[rattlefmt::skip]
 const FAULTS: &[Row] = &[
     Row("", CUBIC, Refused(2, b"magsym: no command\n")),
-    Row("symmetry --skip x --foo", CUBIC, Refused(2, b"magsym: value is not a number of 1 to 9 digits\n")),
+    Row("symmetry,--skip,x,--foo", CUBIC, Refused(2, b"magsym: value is not a number of 1 to 9 digits\n")),
 ];
 
 /// What is left of the input.

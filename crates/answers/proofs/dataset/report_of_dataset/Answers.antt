@@ -5,7 +5,7 @@ use Rattle.site_orbits.specs.Entries.{HaveOrbits}
 use Rattle.report_text.specs.DatasetText.{dataset_text}
 use Rattle.report_text.proofs.DatasetLemmas.{firsts_below}
 use Rattle.command_words.specs.declared.command.Command.TheVariants.{Dataset}
-use Rattle.status_lines.specs.declared.status.Kept.{Kept}
+use Rattle.report_basis.specs.declared.Kept.{Kept}
 use Rattle.answers.specs.DatasetReports.{IsDatasetReport}
 use Rattle.answers.specs.Reports.{IsReport}
 use Rattle.answers.proofs.FoundLemmas.{found_group, found_primitive}

@@ -3,7 +3,7 @@ use Rattle.crystal_spec.specs.Crystals.{Structure}
 use Rattle.crystal_spec.specs.Operations.{ListsAll}
 use Rattle.site_orbits.specs.Entries.{HaveOrbits}
 use Rattle.command_words.specs.declared.command.Command.TheVariants.{Orbits}
-use Rattle.status_lines.specs.declared.status.Kept.{Kept}
+use Rattle.report_basis.specs.declared.Kept.{Kept}
 use Rattle.answers.specs.OrbitReports.{IsOrbitReport}
 use Rattle.answers.specs.Reports.{IsReport}
 use Rattle.answers.proofs.orbits.report_of_orbits.Goals as goal

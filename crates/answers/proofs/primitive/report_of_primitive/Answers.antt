@@ -1,7 +1,7 @@
 use Rattle.std.proofs.Common.{sym, ap, subst, ◌∙◌}
 use Rattle.report_text.specs.PrimitiveText.{cell_in_basis_text}
 use Rattle.command_words.specs.declared.command.Command.TheVariants.{Primitive}
-use Rattle.status_lines.specs.declared.status.Kept.{Kept}
+use Rattle.report_basis.specs.declared.Kept.{Kept}
 use Rattle.answers.specs.PrimitiveReports.{IsPrimitiveReport}
 use Rattle.answers.specs.Reports.{IsReport}
 use Rattle.answers.proofs.primitive.report_of_primitive.Goals as goal
