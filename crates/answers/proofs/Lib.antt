@@ -1,4 +1,5 @@
 pub mod FoundLemmas
+pub mod IdentifyLemmas
 pub mod Listed
 pub mod OneReport
 pub mod SpelledSizes

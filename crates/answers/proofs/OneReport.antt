@@ -29,7 +29,7 @@ use Rattle.operation_text.specs.Pages.{page_text}
 use Rattle.report_text.specs.PrimitiveText.{cell_in_basis_text}
 use Rattle.report_text.specs.DatasetText.{dataset_text}
 use Rattle.report_text.specs.OrbitText.{orbit_text}
-use Rattle.command_words.specs.declared.command.Command.TheVariants.{Symmetry, Primitive, Dataset, Orbits, Hall, Selfrun}
+use Rattle.command_words.specs.declared.command.Command.TheVariants.{Symmetry, Primitive, Dataset, Orbits, Hall, Identify, Selfrun}
 use Rattle.report_basis.specs.declared.Kept.TheVariants.{NoBase, Back}
 use Rattle.answers.specs.SymmetryReports.{SymmetryReport}
 use Rattle.answers.specs.PrimitiveReports.{IsPrimitiveReport}
@@ -152,4 +152,5 @@ one_report c cell Dataset (Back q) bytes others h k = dataset_once c q bytes oth
 one_report c cell Orbits NoBase bytes others h k = absurd h
 one_report c cell Orbits (Back q) bytes others h k = orbits_report_once c q bytes others h k
 one_report c cell Hall kept bytes others h k = absurd h
+one_report c cell Identify kept bytes others h k = absurd h
 one_report c cell (Selfrun seed) kept bytes others h k = absurd h

@@ -2,6 +2,7 @@ pub mod Answers
 pub mod DatasetReports
 pub mod Findings
 pub mod HallReports
+pub mod IdentifyReports
 pub mod OrbitReports
 pub mod PrimitiveReports
 pub mod Reports

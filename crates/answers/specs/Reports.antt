@@ -1,11 +1,11 @@
--- Which report a command that reads a cell asks for.
+-- Which report a command that reads a cell, and nothing else, asks for.
 --   IsReport command c kept bytes   the report that the command asks for on the crystal c, and the basis it speaks of
 --   HasOneReport c                  for each command and basis there is one report on c
 -- Our own.
 use Rattle.std.specs.Prelude.{◌≡◌, ℕ, List}
 use Rattle.crystal_spec.specs.Crystals.{Structure}
 use Rattle.command_words.specs.declared.command.Command.{Command}
-use Rattle.command_words.specs.declared.command.Command.TheVariants.{Symmetry, Primitive, Dataset, Orbits, Hall, Selfrun}
+use Rattle.command_words.specs.declared.command.Command.TheVariants.{Symmetry, Primitive, Dataset, Orbits, Hall, Identify, Selfrun}
 use Rattle.report_basis.specs.declared.Kept.{Kept}
 use Rattle.report_basis.specs.declared.Kept.TheVariants.{NoBase, Back}
 use Rattle.answers.specs.SymmetryReports.{SymmetryReport}
@@ -13,7 +13,7 @@ use Rattle.answers.specs.PrimitiveReports.{IsPrimitiveReport}
 use Rattle.answers.specs.DatasetReports.{IsDatasetReport}
 use Rattle.answers.specs.OrbitReports.{IsOrbitReport}
 
--- the report that the command asks for, which speaks of this basis; `hall` and `selfrun` read no cell
+-- the report that the command asks for, which speaks of this basis; `hall` and `selfrun` read no cell, and `identify` reads a table too
 abbrev pub IsReport : Command → Structure → Kept → List ℕ → Type 0
 IsReport (Symmetry time skip most) c NoBase bytes = SymmetryReport c time skip most bytes
 IsReport (Symmetry time skip most) c (Back q) bytes = ⊥
@@ -24,6 +24,7 @@ IsReport Dataset c (Back q) bytes = IsDatasetReport c q bytes
 IsReport Orbits c NoBase bytes = ⊥
 IsReport Orbits c (Back q) bytes = IsOrbitReport c q bytes
 IsReport Hall c kept bytes = ⊥
+IsReport Identify c kept bytes = ⊥
 IsReport (Selfrun seed) c kept bytes = ⊥
 
 -- reports of one command that speak of one basis are one

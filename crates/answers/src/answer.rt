@@ -3,7 +3,7 @@
 ghost use Rattle.std.specs.Prelude.{IfOk};
 ghost use Rattle.crystal_spec.specs.Cells.{IsCell};
 ghost use Rattle.crystal_spec.specs.Crystals.{Structure};
-ghost use Rattle.command_words.specs.Commands.{ReadsCell};
+ghost use Rattle.command_words.specs.Commands.{ReadsCellAlone};
 ghost use Rattle.answers.specs.Answers.{IsAnswer};
 ghost use Rattle.answers.specs.Reports.{HasOneReport};
 ghost use Rattle.answers.specs.Spelled.{IsSpelled};
@@ -33,11 +33,14 @@ pub enum Answer {
     /// The whole report that was asked for.
     Report(Report),
 
+    /// The whole report of `identify`, in which no row is matched.
+    NoMatch(Report),
+
     /// The symbol of `hall` has this fault.
     SymbolRefused(RowFault),
 }
 
-/// What a command that reads a cell answers on one that was read. Refuses for want of memory alone.
+/// What a command that reads a cell, and nothing else, answers on one that was read. Refuses for want of memory alone.
 ///
 /// No operations are looked for where the primitive cell alone is wanted.
 pub fn answer_of<L: Ledger>(
@@ -46,7 +49,7 @@ pub fn answer_of<L: Ledger>(
     cell: &Cell,
     steps: &mut Steps<L>,
 ) -> Result<Answer, AllocError>
-    requires reads { ReadsCell command }
+    requires reads { ReadsCellAlone command }
     requires spelled { IsSpelled cell.now }
     ensures { IfOk result (λ answer. IsAnswer command cell.now answer) }
 {
@@ -57,7 +60,7 @@ pub fn answer_of<L: Ledger>(
         Command::Primitive => answer_primitive(alloc, cell),
         Command::Dataset => answer_dataset(alloc, cell, steps),
         Command::Orbits => answer_orbits(alloc, cell, steps),
-        Command::Hall | Command::Selfrun(_) => Err(AllocError),
+        Command::Hall | Command::Identify | Command::Selfrun(_) => Err(AllocError),
     }
 }
 

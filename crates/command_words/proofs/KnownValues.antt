@@ -2,7 +2,7 @@
 use Rattle.std.proofs.Common.{◌≡◌, ◌∷◌, [], refl}
 use Rattle.std.specs.Prelude.{codes, true, false, Some, None}
 use Rattle.std.specs.declared.result.Result.TheVariants.{Ok, Err}
-use Rattle.command_words.specs.declared.command.Command.TheVariants.{Symmetry, Primitive, Dataset, Orbits, Hall, Selfrun}
+use Rattle.command_words.specs.declared.command.Command.TheVariants.{Symmetry, Primitive, Dataset, Orbits, Hall, Identify, Selfrun}
 use Rattle.command_words.specs.declared.command.UsageFault.TheVariants.{NoCommand, UnknownCommand, UnknownOption, RepeatedOption, MissingValue, BadValue, MissingWord, ExtraWord}
 use Rattle.command_words.specs.Commands.{command, argument}
 
@@ -47,6 +47,9 @@ symbol_as_option = refl
 
 empty_symbol : command (codes "hall" ∷ codes "" ∷ []) ≡ Ok Hall
 empty_symbol = refl
+
+table : command (codes "identify" ∷ codes "groups.table" ∷ []) ≡ Ok Identify
+table = refl
 
 seed : command (codes "selfrun" ∷ codes "000000001" ∷ []) ≡ Ok (Selfrun 1)
 seed = refl
@@ -117,6 +120,9 @@ no_symbol = refl
 
 two_symbols : command (codes "hall" ∷ codes "P" ∷ codes "1" ∷ []) ≡ Err ExtraWord
 two_symbols = refl
+
+no_table : command (codes "identify" ∷ []) ≡ Err MissingWord
+no_table = refl
 
 no_seed : command (codes "selfrun" ∷ []) ≡ Err MissingWord
 no_seed = refl

@@ -14,6 +14,7 @@
 --   behind_name name words   what the words behind the name ask for
 --   command words        the command, or the first fault from the left
 --   ReadsCell command    the command reads a cell from the input
+--   ReadsCellAlone command   it does, and reads nothing else
 -- The word behind `--skip` or `--take` is its value, whatever it is. An option that was given before is told as such also
 -- where it has no value.
 use Rattle.std.specs.Prelude.{ℕ, Bool, true, false, List, [], ◌∷◌, drop, nat_eq, if◌then◌else◌, codes}
@@ -26,7 +27,7 @@ use Rattle.plain_text.specs.Digits.{is_count, value_of_digits}
 use Rattle.command_words.specs.declared.options.Awaited.TheVariants.{AnyOption, ValueOfSkip, ValueOfTake}
 use Rattle.command_words.specs.declared.options.Options.{Options}
 use Rattle.command_words.specs.declared.command.Command.{Command}
-use Rattle.command_words.specs.declared.command.Command.TheVariants.{Symmetry, Primitive, Dataset, Orbits, Hall, Selfrun}
+use Rattle.command_words.specs.declared.command.Command.TheVariants.{Symmetry, Primitive, Dataset, Orbits, Hall, Identify, Selfrun}
 use Rattle.command_words.specs.declared.command.CommandName.{CommandName}
 use Rattle.command_words.specs.declared.command.UsageFault.{UsageFault}
 use Rattle.command_words.specs.declared.command.UsageFault.TheVariants.{NoCommand, UnknownCommand, UnknownOption, RepeatedOption, MissingValue, BadValue, MissingWord, ExtraWord}
@@ -124,6 +125,7 @@ command_name word =
     else if same_word word (codes "dataset") then Some CommandName.Dataset
     else if same_word word (codes "orbits") then Some CommandName.Orbits
     else if same_word word (codes "hall") then Some CommandName.Hall
+    else if same_word word (codes "identify") then Some CommandName.Identify
     else if same_word word (codes "selfrun") then Some CommandName.Selfrun
     else None
 
@@ -134,6 +136,7 @@ behind_name CommandName.Primitive words = alone Primitive words
 behind_name CommandName.Dataset words = alone Dataset words
 behind_name CommandName.Orbits words = alone Orbits words
 behind_name CommandName.Hall words = one_more (Ok Hall) words
+behind_name CommandName.Identify words = one_more (Ok Identify) words
 behind_name CommandName.Selfrun words = from_seed words
 
 -- the first word is the name
@@ -148,4 +151,15 @@ ReadsCell Primitive = Unit {0}
 ReadsCell Dataset = Unit {0}
 ReadsCell Orbits = Unit {0}
 ReadsCell Hall = ⊥
+ReadsCell Identify = Unit {0}
 ReadsCell (Selfrun seed) = ⊥
+
+-- they read a cell, and no table
+abbrev pub ReadsCellAlone : Command → Type 0
+ReadsCellAlone (Symmetry time skip take) = Unit {0}
+ReadsCellAlone Primitive = Unit {0}
+ReadsCellAlone Dataset = Unit {0}
+ReadsCellAlone Orbits = Unit {0}
+ReadsCellAlone Hall = ⊥
+ReadsCellAlone Identify = ⊥
+ReadsCellAlone (Selfrun seed) = ⊥

@@ -27,6 +27,9 @@ pub enum Command {
     /// The operations of the group of a Hall symbol, which is the one further word.
     Hall,
 
+    /// Which groups of a table the crystal has, with the maps; the table's name is the one further word.
+    Identify,
+
     /// The summary of the cell that this seed generates.
     Selfrun(u32),
 }
@@ -52,7 +55,7 @@ pub enum UsageFault {
     /// The value of an option, or the seed, does not have 1 to 9 digits and nothing else.
     BadValue,
 
-    /// The symbol or the seed is missing.
+    /// The symbol, the name of the table or the seed is missing.
     MissingWord,
 
     /// There are words behind those that the command takes.
@@ -127,6 +130,7 @@ enum CommandName {
     Dataset,
     Orbits,
     Hall,
+    Identify,
     Selfrun,
 }
 
@@ -149,6 +153,9 @@ fn command_name(word: &[u8]) -> Option<CommandName>
     if word == b"hall".as_slice() {
         return Some(CommandName::Hall);
     }
+    if word == b"identify".as_slice() {
+        return Some(CommandName::Identify);
+    }
     if word == b"selfrun".as_slice() {
         return Some(CommandName::Selfrun);
     }
@@ -165,6 +172,7 @@ fn behind_name(name: CommandName, words: &Words) -> Result<Command, UsageFault>
         CommandName::Dataset => alone(Command::Dataset, words),
         CommandName::Orbits => alone(Command::Orbits, words),
         CommandName::Hall => one_more(Ok(Command::Hall), words),
+        CommandName::Identify => one_more(Ok(Command::Identify), words),
         CommandName::Selfrun => from_seed(words),
     }
 }

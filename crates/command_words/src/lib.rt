@@ -1,7 +1,7 @@
 //! The words of the command line, and what they ask for.
 //!
 //! The words are those behind the program's name, each a list of bytes. The first names a command; only `symmetry` has
-//! options, which may come in any order, each at most once; `hall` and `selfrun` take one further word. Where words ask for
+//! options, which may come in any order, each at most once; `hall`, `identify` and `selfrun` take one further word. Where words ask for
 //! nothing, the first fault from the left is told. `specs/Commands.antt` says what words ask for, `specs/OptionOrder.antt` that the order of options does not matter.
 #![tactic(auto)]
 

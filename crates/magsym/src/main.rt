@@ -1,6 +1,6 @@
 //! The program magsym: exact magnetic symmetry of crystals.
 //!
-//! `main` makes the real input, output and error stream, calls `run` of magsym_run over them and the words of the command
+//! `main` makes the real input, the store of the system's files, the output and the error stream, calls `run` of magsym_run over them and the words of the command
 //! line, and ends with the number of its status.
 #![tactic(auto)]
 
@@ -8,7 +8,7 @@
 mod tests;
 
 use command_words::Words;
-use io_edge::{Bytes, StdSink, StdSource};
+use io_edge::{Bytes, DirShelf, StdSink, StdSource};
 use magsym_run::run_counted;
 use status_lines::Status;
 use std::alloc::AllocError;
@@ -38,14 +38,16 @@ fn main(rt: HostRuntime) -> ExitCode {
         return ExitCode::from(Status::Memory.number());
     };
     let mut input = StdSource::new(rt.stdin());
+    let mut shelf = DirShelf::new(&rt);
     let mut out = StdSink::new(rt.stdout());
     let mut err = StdSink::new(rt.stderr());
     let blank = Blank::new(1);
-    let status = run_counted::<Brand, _, _, _>(
+    let status = run_counted::<Brand, _, _, _, _>(
         rt.alloc(),
         blank,
         &words,
         &mut input,
+        &mut shelf,
         &mut out,
         &mut err,
     );

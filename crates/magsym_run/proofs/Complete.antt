@@ -1,24 +1,30 @@
 -- What each status says leaves only the whole report, or want of memory, where nothing stands in the way of a report.
-use Rattle.std.proofs.Common.{◌≡◌, sym, ap, subst, ◌∙◌, ℕ, ◌+◌, ◌≤◌, List, ◌++◌, length, Some, None, append-nil, arith}
+use Rattle.std.proofs.Common.{◌≡◌, sym, ap, subst, ◌∙◌, ◌⊎◌, inl, inr, ℕ, ◌+◌, ◌≤◌, nat_lt, true, List, [], ◌∷◌, ◌++◌, length, Some, None, append-nil, arith}
 use Rattle.std.proofs.lemmas.List.{length-append}
 use Rattle.std.specs.declared.option.Option.{Option}
 use Rattle.std.specs.declared.result.Result.TheVariants.{Ok, Err}
 use Rattle.std.specs.Io.KnownBytes.{Consumes, IsAtEnd}
 use Rattle.cell_text.specs.Rules.{cell_fault}
 use Rattle.status_lines.specs.declared.status.Status.{Status}
-use Rattle.status_lines.specs.declared.status.Status.TheVariants.{Done, Usage, CellTooLong, CellRefused, SymbolRefused, ReadFault, WriteFault, Memory}
+use Rattle.status_lines.specs.declared.status.Status.TheVariants.{Done, NoMatch, Usage, CellTooLong, CellRefused, SymbolRefused, TableRefused, TableTooLong, ReadFault, WriteFault, Memory}
 use Rattle.hall_symbol.specs.Symbols.{HallSymbol, generators}
 use Rattle.hall_symbol.specs.Spelling.{symbol_fault}
+use Rattle.hall_symbol.specs.Cuts.{behind_first_word}
 use Rattle.hall_text.specs.Products.{TooMany}
+use Rattle.hall_text.specs.Tables.{rows, AreRows, IsRow, IsRowFault, IsFirstFault}
+use Rattle.hall_text.specs.declared.limits.TheConstants.{MOST_ROWS}
+use Rattle.io_edge.specs.Causes.{Rose}
+use Rattle.io_edge.specs.Shelves.{IsMissing, Leaves}
+use Rattle.io_edge.specs.States.{Files}
 use Rattle.hall_text.specs.declared.fault.RowFault.{RowFault}
 use Rattle.hall_text.specs.declared.fault.RowFault.TheVariants as faults
 use Rattle.answers.specs.HallReports.{IsSymbolFault}
 use Rattle.command_words.specs.declared.command.Command.{Command}
-use Rattle.command_words.specs.declared.command.Command.TheVariants.{Symmetry, Primitive, Dataset, Orbits, Hall, Selfrun}
+use Rattle.command_words.specs.declared.command.Command.TheVariants.{Symmetry, Primitive, Dataset, Orbits, Hall, Identify, Selfrun}
 use Rattle.command_words.specs.Commands.{command, argument, ReadsCell}
-use Rattle.magsym_run.specs.Outcomes.{Streams, Outcome, IsAskedOfCell}
+use Rattle.magsym_run.specs.Outcomes.{Streams, Outcome, IsAskedOfCell, IsTableWanted, FailsToReadTable}
 use Rattle.status_lines.specs.StatusKinds.{kind_of, IsDoneOrMemory}
-use Rattle.magsym_run.specs.Completeness.{IsAnswerable, IsThere, SpellsCell, HasGroup}
+use Rattle.magsym_run.specs.Completeness.{IsAnswerable, IsThere, SpellsCell, HasTable, HasGroup}
 
 -- what was read to the end is all of a known text
 read_is_text : (left after : Option (List ℕ)) (text read : List ℕ) → left ≡ Some text → Consumes left after read → IsAtEnd after → text ≡ read
@@ -46,6 +52,7 @@ spells_cell Primitive word s reads there = there
 spells_cell Dataset word s reads there = there
 spells_cell Orbits word s reads there = there
 spells_cell Hall word s reads there = absurd reads
+spells_cell Identify word s reads there = there.0
 spells_cell (Selfrun seed) word s reads there = absurd reads
 
 -- where the words ask for a command that reads a cell, the input spells one
@@ -65,15 +72,74 @@ group_faultless word faults.TooManyMatrices g f =
 group_faultless word faults.TooManyRows g f = f
 group_faultless word faults.BadRow g f = f
 
+-- where a table is wanted there is one
+table_there : (ws : List (List ℕ)) (s : Streams) → IsTableWanted ws s.input s.input_after → IsAnswerable ws s → HasTable (argument ws) s
+table_there ws s wanted a =
+    let same = asked_once ws Identify a.request wanted.asked a.asked in
+    let there : IsThere Identify (argument ws) s = subst (λ (c : Command). IsThere c (argument ws) s) (sym same) a.there in there.1
+
+-- a file that was read to its end is all of a known one
+file_is_text : (told : Option Files) (left : Option (List ℕ)) (files : Files) (name text read : List ℕ) → told ≡ Some files → files name ≡ Some text → Leaves told name read left → IsAtEnd left → text ≡ read
+file_is_text None left files name text read e f p q = absurd cc
+file_is_text (Some fs) None files name text read e f p q = absurd p
+file_is_text (Some fs) (Some ys) files name text read e f p q =
+    let same : fs ≡ files = cc in
+    let known : fs name ≡ Some text = ap (λ (g : Files). g name) same ∙ f in
+    let both : Some text ≡ Some (read ++ ys) = sym known ∙ p in
+    let is : text ≡ read ++ ys = cc in is ∙ ap (λ l. read ++ l) q ∙ append-nil read
+
+-- no more than all of a known file is taken
+file_within : (told : Option Files) (left : Option (List ℕ)) (files : Files) (name text taken : List ℕ) → told ≡ Some files → files name ≡ Some text → Leaves told name taken left → length taken ≤ length text
+file_within None left files name text taken e f p = absurd cc
+file_within (Some fs) None files name text taken e f p = absurd p
+file_within (Some fs) (Some ys) files name text taken e f p =
+    let same : fs ≡ files = cc in
+    let known : fs name ≡ Some text = ap (λ (g : Files). g name) same ∙ f in
+    let both : Some text ≡ Some (taken ++ ys) = sym known ∙ p in
+    let is : text ≡ taken ++ ys = cc in
+    let count : length text ≡ length taken + length ys = ap length is ∙ length-append taken ys in omega (arith, count)
+
+-- a file that is there isn't missing
+missing_not : (told : Option Files) (files : Files) (name text : List ℕ) → told ≡ Some files → files name ≡ Some text → IsMissing told name → ⊥
+missing_not None files name text e f m = m
+missing_not (Some fs) files name text e f m =
+    let same : fs ≡ files = cc in
+    let known : fs name ≡ Some text = ap (λ (g : Files). g name) same ∙ f in
+    let none : fs name ≡ None = m in absurd cc
+
+-- a store that works and has the file doesn't fail to give it
+table_had : (name : List ℕ) (s : Streams) → HasTable name s → FailsToReadTable s.shelf_highest s.shelf s.shelf_after name → ⊥
+table_had name s t r = by r.cause
+  where
+    by : (Rose s.shelf_highest s.shelf.picked.faults s.shelf_after.picked.faults ⊎ IsMissing s.shelf.files name) → ⊥
+    by (inl rose) = t.shelf_works rose
+    by (inr missing) = missing_not s.shelf.files t.files name t.text t.are_files t.is_file missing
+
+-- a row without a fault has none
+row_faultless : (n : ℕ) (line : List ℕ) (fault : RowFault) → IsRow n line → IsRowFault n line fault → ⊥
+row_faultless n line faults.TooManyRows r f = let a = r.within in let b : nat_lt MOST_ROWS n ≡ true = f in absurd cc
+row_faultless n line faults.BadRow r f = let a = r.form in let b = f.1 in absurd cc
+row_faultless n line (faults.Symbol fault) r f =
+    let a : symbol_fault (behind_first_word line) ≡ None = r.faultless in
+    let b : symbol_fault (behind_first_word line) ≡ Some fault = f.2 in absurd cc
+row_faultless n line faults.TooManyMatrices r f = r.few f.3
+
+no_first_fault : (n : ℕ) (lines : List (List ℕ)) (i : ℕ) (fault : RowFault) → AreRows n lines → IsFirstFault n lines i fault → ⊥
+no_first_fault n [] i fault r f = f
+no_first_fault n (line ∷ later) i fault r (inl f) = row_faultless (n + 1) line fault r.0 f.0
+no_first_fault n (line ∷ later) i fault r (inr f) = no_first_fault (n + 1) later i fault r.1 f.1
+
 -- by cases on the status
 pub complete_of_outcome : (ws : List (List ℕ)) (s : Streams) (status : Status) → Outcome ws s status → IsAnswerable ws s → IsDoneOrMemory (kind_of status)
 complete_of_outcome ws s (Done kept) o a = tt
+complete_of_outcome ws s (NoMatch q) o a = tt
 complete_of_outcome ws s Memory o a = tt
 complete_of_outcome ws s (Usage fault) o a =
     let asked : command ws ≡ Ok a.request = a.asked in
     let faulty : command ws ≡ Err fault = o in absurd cc
 complete_of_outcome ws s (WriteFault written kept) o a = absurd (a.output_works o.cause)
-complete_of_outcome ws s ReadFault o a = absurd ((cell_there ws s o.0 a).input_works o.1.cause)
+complete_of_outcome ws s ReadFault (inl o) a = absurd ((cell_there ws s o.0 a).input_works o.1.cause)
+complete_of_outcome ws s ReadFault (inr o) a = absurd (table_had (argument ws) s (table_there ws s o.0 a) o.1)
 complete_of_outcome ws s (CellRefused line fault) o a =
     let c = cell_there ws s o.0 a in
     let same = read_is_text s.input.left s.input_after.left c.text o.1.text c.is_input o.1.read.taken o.1.read.none_left in
@@ -83,6 +149,15 @@ complete_of_outcome ws s CellTooLong o a =
     let c = cell_there ws s o.0 a in
     let within = taken_within s.input.left s.input_after.left c.text o.1.taken c.is_input o.1.consumed in
     absurd (omega (arith, within, o.1.count, c.short))
+complete_of_outcome ws s (TableRefused row fault) o a =
+    let t = table_there ws s o.0 a in
+    let same = file_is_text s.shelf.files s.shelf_after.picked.left t.files (argument ws) t.text o.1.text t.are_files t.is_file o.1.read.taken o.1.read.none_left in
+    let faultless : AreRows 0 (rows o.1.text) = subst (λ (text : List ℕ). AreRows 0 (rows text)) same t.spelled.faultless in
+    absurd (no_first_fault 0 (rows o.1.text) row fault faultless o.1.first)
+complete_of_outcome ws s TableTooLong o a =
+    let t = table_there ws s o.0 a in
+    let within = file_within s.shelf.files s.shelf_after.picked.left t.files (argument ws) t.text o.1.taken t.are_files t.is_file o.1.leaves in
+    absurd (omega (arith, within, o.1.count, t.short))
 complete_of_outcome ws s (SymbolRefused fault) o a =
     let same = asked_once ws Hall a.request o.0 a.asked in
     let there : IsThere Hall (argument ws) s = subst (λ (c : Command). IsThere c (argument ws) s) (sym same) a.there in

@@ -1,18 +1,22 @@
 -- When a run has to write the whole report.
 --   SpellsCell s              the input spells a cell and does not fail
+--   HasTable name s           the store has a table of this name without a faulty row, and does not fail
 --   HasGroup word             the word spells a Hall symbol of at most 48 matrices
 --   IsThere request word s    what the command works on is there
 --   IsAnswerable ws s         the words ask for a command, what it works on is there, and the output does not fail
 use Rattle.std.specs.Prelude.{◌≡◌, ◌≤◌, ℕ, List, length, Some}
 use Rattle.std.specs.declared.result.Result.TheVariants.{Ok}
 use Rattle.io_edge.specs.Causes.{Rose}
+use Rattle.io_edge.specs.States.{Files}
 use Rattle.crystal_spec.specs.Crystals.{Structure}
 use Rattle.cell_text.specs.CellFile.{Spells}
 use Rattle.hall_symbol.specs.Symbols as hall
 use Rattle.hall_symbol.specs.Spelling as spelling
 use Rattle.hall_text.specs.Products.{TooMany}
+use Rattle.hall_text.specs.Tables.{SpellsTable}
+use Rattle.hall_text.specs.declared.rows.Row.{Row}
 use Rattle.command_words.specs.declared.command.Command.{Command}
-use Rattle.command_words.specs.declared.command.Command.TheVariants.{Symmetry, Primitive, Dataset, Orbits, Hall, Selfrun}
+use Rattle.command_words.specs.declared.command.Command.TheVariants.{Symmetry, Primitive, Dataset, Orbits, Hall, Identify, Selfrun}
 use Rattle.command_words.specs.Commands.{command, argument}
 use Rattle.magsym_run.specs.Outcomes.{Streams}
 
@@ -31,13 +35,25 @@ pub record HasGroup (word : List ℕ) : Type 0 where
   pub spelled : spelling.Spells word symbol
   pub few : TooMany (hall.generators symbol) → ⊥
 
--- the cell of the input, or the group of the word; a seed always generates a cell
+-- the store tells its files; that of this name has at most 1,048,576 bytes, and spells a table; and the store did not fail
+pub record HasTable (name : List ℕ) (s : Streams) : Type 0 where
+  pub files : Files
+  pub are_files : s.shelf.files ≡ Some files
+  pub text : List ℕ
+  pub is_file : files name ≡ Some text
+  pub short : length text ≤ 1048576
+  pub table : List Row
+  pub spelled : SpellsTable text table
+  pub shelf_works : Rose s.shelf_highest s.shelf.picked.faults s.shelf_after.picked.faults → ⊥
+
+-- the cell of the input, and the table for `identify`; or the group of the word; a seed always generates a cell
 abbrev pub IsThere : Command → List ℕ → Streams → Type 0
 IsThere (Symmetry time skip most) word s = SpellsCell s
 IsThere Primitive word s = SpellsCell s
 IsThere Dataset word s = SpellsCell s
 IsThere Orbits word s = SpellsCell s
 IsThere Hall word s = HasGroup word
+IsThere Identify word s = SpellsCell s × HasTable word s
 IsThere (Selfrun seed) word s = Unit {0}
 
 pub record IsAnswerable (ws : List (List ℕ)) (s : Streams) : Type 0 where

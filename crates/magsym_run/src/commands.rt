@@ -1,35 +1,102 @@
 // What each command does, but for the line on the error stream.
-ghost use Rattle.std.specs.Prelude.{◌≡◌, ℕ, ◌<◌, ◌≤◌, List};
+ghost use Rattle.std.specs.Prelude.{◌≡◌, ℕ, ◌<◌, ◌≤◌, ◌⊎◌, true, false, List, IfOk, IfErr};
 ghost use Rattle.std.specs.declared.option.Option.{Option};
 ghost use Rattle.std.specs.declared.result.Result.TheVariants.{Ok};
-ghost use Rattle.command_words.specs.declared.command.Command.TheVariants.{Hall, Selfrun};
-ghost use Rattle.command_words.specs.Commands.{command, argument, ReadsCell};
-ghost use Rattle.io_edge.specs.States.{SourceState};
+ghost use Rattle.command_words.specs.declared.command.Command.TheVariants.{Hall, Identify, Selfrun};
+ghost use Rattle.command_words.specs.Commands.{command, argument, ReadsCellAlone};
+ghost use Rattle.io_edge.specs.States.{SourceState, ShelfState};
 ghost use Rattle.io_edge.specs.Reading.{TakesAtMost, StopsAtEnd};
+ghost use Rattle.io_edge.specs.Shelves.{TakesAtMostOfFile};
 ghost use Rattle.status_lines.specs.StatusKinds.{kind_of, IsRefusal};
-ghost use Rattle.magsym_run.specs.Outcomes.{streams, Outcome, IsAskedOfCell};
-ghost use Rattle.magsym_run.specs.Writings.{IsWritten};
+ghost use Rattle.crystal_spec.specs.Crystals.{Structure};
+ghost use Rattle.answers.specs.Spelled.{IsSpelled};
+ghost use Rattle.magsym_run.specs.Outcomes.{streams, Outcome, IsAskedOfCell, IsTableWanted, SpellsInput, TakesAtMostTable};
+ghost use Rattle.magsym_run.specs.Writings.{IsWritten, IsIdentified, HasBasis, RefusesInput, IsTableOf, RefusesTable};
 
-use answers::{Answer, Report, answer_hall, answer_of, answer_selfrun};
+use answers::{Answer, Report, answer_hall, answer_identify, answer_of, answer_selfrun};
 use cell_text::{CellError, read_cell};
 use command_words::{Command, Words, argument, read_words};
-use crystal::Steps;
-use io_edge::{InFault, Sink, Source, read_to_end, write_whole};
+use crystal::{Cell, Steps};
+use hall_text::{Table, TableError, read_table};
+use io_edge::{InFault, Shelf, Sink, Source, read_file, read_to_end, write_whole};
+use report_basis::Kept;
 use status_lines::Status;
 use std::alloc::Global;
 use std::sync::ledger::Ledger;
 
 /// The most bytes that the text of a cell can have.
-const CELL_LIMIT: usize = 262144;
+const CELL_LIMIT: usize = 262_144;
+
+/// The most bytes that a table can have.
+const TABLE_LIMIT: usize = 1_048_576;
+
+/// The cell that the input spells, or the status that says why there is none.
+fn cell_of_input<I: Source>(alloc: Global, input: &mut I) -> Result<Cell, Status>
+    ensures accepted { IfOk result (λ cell. SpellsInput (I.state input.old) (I.state input.new) cell) }
+    ensures refused { IfErr result (λ status. RefusesInput I.highest_count (I.state input.old) (I.state input.new) status) }
+    ensures taken { TakesAtMost 262145 (I.state input.old) (I.state input.new) }
+    ensures stops { StopsAtEnd (I.state input.old) (I.state input.new) }
+    ensures later { (I.state input.old).faults ≤ (I.state input.new).faults }
+{
+    let text = match read_to_end(alloc, input, CELL_LIMIT) {
+        Ok(text) => text,
+        Err(InFault::ReadFault) => return Err(Status::ReadFault),
+        Err(InFault::TooLong) => return Err(Status::CellTooLong),
+        Err(InFault::Memory) => return Err(Status::Memory),
+    };
+    match read_cell(alloc, &text) {
+        Ok(cell) => Ok(cell),
+        Err(CellError::Refused(line, fault)) => Err(Status::CellRefused(line, fault)),
+        Err(CellError::Memory) => Err(Status::Memory),
+    }
+}
+
+/// The table that the file of this name spells, or the status that says why there is none.
+fn table_of_file<F: Shelf>(alloc: Global, shelf: &mut F, name: &[u8]) -> Result<Table, Status>
+    ensures spelled { IfOk result (λ table. IsTableOf (F.state shelf.old) (F.state shelf.new) name.now table) }
+    ensures refused { IfErr result (λ status. RefusesTable F.highest_count (F.state shelf.old) (F.state shelf.new) name.now status) }
+    ensures taken { TakesAtMostOfFile 1048577 name.now (F.state shelf.old) (F.state shelf.new) }
+    ensures files { (F.state shelf.new).files ≡ (F.state shelf.old).files }
+    ensures stops { (F.state shelf.new).picked.read_past_end ≡ (F.state shelf.old).picked.read_past_end }
+    ensures later { (F.state shelf.old).picked.faults ≤ (F.state shelf.new).picked.faults }
+{
+    let text = match read_file(alloc, shelf, name, TABLE_LIMIT) {
+        Ok(text) => text,
+        Err(InFault::ReadFault) => return Err(Status::ReadFault),
+        Err(InFault::TooLong) => return Err(Status::TableTooLong),
+        Err(InFault::Memory) => return Err(Status::Memory),
+    };
+    match read_table(alloc, &text) {
+        Ok(table) => Ok(table),
+        Err(TableError::Refused(row, fault)) => Err(Status::TableRefused(row, fault)),
+        Err(TableError::Memory) => Err(Status::Memory),
+    }
+}
 
 /// Writes a report to the output.
 fn write_report<O: Sink>(out: &mut O, report: &Report) -> Status
-    ensures written { IsWritten O.highest_count (O.state out.old) (O.state out.new) report.now.kept report.now.text result }
+    ensures written { IsWritten O.highest_count (O.state out.old) (O.state out.new) report.now.kept true report.now.text result }
     ensures begun { IsRefusal (kind_of result) → ⊥ }
-    ensures out_later { (O.state out.old).faults ≤ (O.state out.new).faults }
+    ensures later { (O.state out.old).faults ≤ (O.state out.new).faults }
 {
     match write_whole(out, report.text.as_slice()) {
         Ok(()) => Status::Done(report.kept),
+        Err(fault) => Status::WriteFault(fault.written, report.kept),
+    }
+}
+
+/// Writes a report without a match to the output.
+fn write_unmatched<O: Sink>(out: &mut O, report: &Report) -> Status
+    requires basis { HasBasis report.now.kept }
+    ensures written { IsWritten O.highest_count (O.state out.old) (O.state out.new) report.now.kept false report.now.text result }
+    ensures begun { IsRefusal (kind_of result) → ⊥ }
+    ensures later { (O.state out.old).faults ≤ (O.state out.new).faults }
+{
+    let Kept::Back(q) = report.kept else {
+        return Status::Memory;
+    };
+    match write_whole(out, report.text.as_slice()) {
+        Ok(()) => Status::NoMatch(q),
         Err(fault) => Status::WriteFault(fault.written, report.kept),
     }
 }
@@ -42,25 +109,18 @@ fn with_cell<I: Source, O: Sink, L: Ledger>(
     out: &mut O,
     steps: &mut Steps<L>,
 ) -> Status
-    requires reads { ReadsCell request }
-    ensures outcome { (ws : List (List ℕ)) → command ws ≡ Ok request → Outcome ws (streams I.highest_count
-        (I.state input.old) (I.state input.new) O.highest_count (O.state out.old) (O.state out.new)) result }
+    requires { ReadsCellAlone request }
+    ensures outcome { (ws : List (List ℕ)) (highest : Option ℕ) (shelf : ShelfState) → command ws ≡ Ok request → Outcome ws (streams
+        I.highest_count (I.state input.old) (I.state input.new) highest shelf shelf O.highest_count (O.state out.old) (O.state out.new)) result }
     ensures taken { TakesAtMost 262145 (I.state input.old) (I.state input.new) }
     ensures stops { StopsAtEnd (I.state input.old) (I.state input.new) }
     ensures out_untouched { IsRefusal (kind_of result) → out.new ≡ out.old }
     ensures in_later { (I.state input.old).faults ≤ (I.state input.new).faults }
     ensures out_later { (O.state out.old).faults ≤ (O.state out.new).faults }
 {
-    let text = match read_to_end(alloc, input, CELL_LIMIT) {
-        Ok(text) => text,
-        Err(InFault::ReadFault) => return Status::ReadFault,
-        Err(InFault::TooLong) => return Status::CellTooLong,
-        Err(InFault::Memory) => return Status::Memory,
-    };
-    let cell = match read_cell(alloc, &text) {
+    let cell = match cell_of_input(alloc, input) {
         Ok(cell) => cell,
-        Err(CellError::Refused(line, fault)) => return Status::CellRefused(line, fault),
-        Err(CellError::Memory) => return Status::Memory,
+        Err(status) => return status,
     };
     let Ok(Answer::Report(report)) = answer_of(alloc, request, &cell, steps) else {
         return Status::Memory;
@@ -68,17 +128,69 @@ fn with_cell<I: Source, O: Sink, L: Ledger>(
     write_report(out, &report)
 }
 
+/// Writes what `identify` answers on a cell and a table.
+fn with_both<O: Sink, L: Ledger>(
+    alloc: Global,
+    cell: &Cell,
+    table: &Table,
+    out: &mut O,
+    steps: &mut Steps<L>,
+) -> Status
+    requires spelled { IsSpelled cell.now }
+    ensures identified { IsIdentified O.highest_count (O.state out.old) (O.state out.new) cell.now table.now result }
+    ensures out_untouched { IsRefusal (kind_of result) → out.new ≡ out.old }
+    ensures later { (O.state out.old).faults ≤ (O.state out.new).faults }
+{
+    match answer_identify(alloc, cell, table, steps) {
+        Ok(Answer::Report(report)) => write_report(out, &report),
+        Ok(Answer::NoMatch(report)) => write_unmatched(out, &report),
+        _ => Status::Memory,
+    }
+}
+
+/// Does `identify` on the cell that the input spells and the table of this name, but for the line on the error stream.
+fn with_table<I: Source, F: Shelf, O: Sink, L: Ledger>(
+    alloc: Global,
+    name: &[u8],
+    input: &mut I,
+    shelf: &mut F,
+    out: &mut O,
+    steps: &mut Steps<L>,
+) -> Status
+    ensures outcome { (ws : List (List ℕ)) → command ws ≡ Ok Identify → argument ws ≡ name.now → Outcome ws (streams
+        I.highest_count (I.state input.old) (I.state input.new) F.highest_count (F.state shelf.old) (F.state shelf.new)
+        O.highest_count (O.state out.old) (O.state out.new)) result }
+    ensures taken { TakesAtMost 262145 (I.state input.old) (I.state input.new) }
+    ensures stops { StopsAtEnd (I.state input.old) (I.state input.new) }
+    ensures shelf_untouched { ((cell : Structure) → SpellsInput (I.state input.old) (I.state input.new) cell → ⊥) → shelf.new ≡ shelf.old }
+    ensures table_read { (shelf.new ≡ shelf.old) ⊎ TakesAtMostTable name.now (F.state shelf.old) (F.state shelf.new) }
+    ensures out_untouched { IsRefusal (kind_of result) → out.new ≡ out.old }
+    ensures in_later { (I.state input.old).faults ≤ (I.state input.new).faults }
+    ensures shelf_later { (F.state shelf.old).picked.faults ≤ (F.state shelf.new).picked.faults }
+    ensures out_later { (O.state out.old).faults ≤ (O.state out.new).faults }
+{
+    let cell = match cell_of_input(alloc, input) {
+        Ok(cell) => cell,
+        Err(status) => return status,
+    };
+    let table = match table_of_file(alloc, shelf, name) {
+        Ok(table) => table,
+        Err(status) => return status,
+    };
+    with_both(alloc, &cell, &table, out, steps)
+}
+
 /// Does `hall` on a word, but for the line on the error stream.
 fn with_symbol<O: Sink>(alloc: Global, word: &[u8], out: &mut O) -> Status
-    ensures outcome { (ws : List (List ℕ)) (highest : Option ℕ) (input : SourceState) → command ws ≡ Ok Hall → argument ws ≡ word.now →
-        Outcome ws (streams highest input input O.highest_count (O.state out.old) (O.state out.new)) result }
+    ensures outcome { (ws : List (List ℕ)) (highest store : Option ℕ) (input : SourceState) (shelf : ShelfState) → command ws ≡ Ok Hall →
+        argument ws ≡ word.now → Outcome ws (streams highest input input store shelf shelf O.highest_count (O.state out.old) (O.state out.new)) result }
     ensures out_untouched { IsRefusal (kind_of result) → out.new ≡ out.old }
     ensures out_later { (O.state out.old).faults ≤ (O.state out.new).faults }
 {
     match answer_hall(alloc, word) {
         Ok(Answer::Report(report)) => write_report(out, &report),
         Ok(Answer::SymbolRefused(fault)) => Status::SymbolRefused(fault),
-        Err(_) => Status::Memory,
+        _ => Status::Memory,
     }
 }
 
@@ -89,8 +201,8 @@ fn with_seed<O: Sink, L: Ledger>(
     out: &mut O,
     steps: &mut Steps<L>,
 ) -> Status
-    ensures outcome { (ws : List (List ℕ)) (highest : Option ℕ) (input : SourceState) → command ws ≡ Ok (Selfrun seed) →
-        Outcome ws (streams highest input input O.highest_count (O.state out.old) (O.state out.new)) result }
+    ensures outcome { (ws : List (List ℕ)) (highest store : Option ℕ) (input : SourceState) (shelf : ShelfState) → command ws ≡ Ok (Selfrun seed) →
+        Outcome ws (streams highest input input store shelf shelf O.highest_count (O.state out.old) (O.state out.new)) result }
     ensures out_untouched { IsRefusal (kind_of result) → out.new ≡ out.old }
     ensures out_later { (O.state out.old).faults ≤ (O.state out.new).faults }
 {
@@ -101,20 +213,24 @@ fn with_seed<O: Sink, L: Ledger>(
 }
 
 /// The answer to the words, but for the line on the error stream.
-pub(crate) fn answer<I: Source, O: Sink, L: Ledger>(
+pub(crate) fn answer<I: Source, F: Shelf, O: Sink, L: Ledger>(
     alloc: Global,
     words: &Words,
     input: &mut I,
+    shelf: &mut F,
     out: &mut O,
     steps: &mut Steps<L>,
 ) -> Status
-    ensures outcome { Outcome words.now (streams I.highest_count (I.state input.old) (I.state input.new)
-        O.highest_count (O.state out.old) (O.state out.new)) result }
+    ensures outcome { Outcome words.now (streams I.highest_count (I.state input.old) (I.state input.new) F.highest_count
+        (F.state shelf.old) (F.state shelf.new) O.highest_count (O.state out.old) (O.state out.new)) result }
     ensures taken { TakesAtMost 262145 (I.state input.old) (I.state input.new) }
     ensures stops { StopsAtEnd (I.state input.old) (I.state input.new) }
     ensures input_untouched { (IsAskedOfCell words.now → ⊥) → input.new ≡ input.old }
+    ensures shelf_untouched { (IsTableWanted words.now (I.state input.old) (I.state input.new) → ⊥) → shelf.new ≡ shelf.old }
+    ensures table_read { (shelf.new ≡ shelf.old) ⊎ TakesAtMostTable (argument words.now) (F.state shelf.old) (F.state shelf.new) }
     ensures out_untouched { IsRefusal (kind_of result) → out.new ≡ out.old }
     ensures in_later { (I.state input.old).faults ≤ (I.state input.new).faults }
+    ensures shelf_later { (F.state shelf.old).picked.faults ≤ (F.state shelf.new).picked.faults }
     ensures out_later { (O.state out.old).faults ≤ (O.state out.new).faults }
 {
     let request = match read_words(words) {
@@ -126,6 +242,7 @@ pub(crate) fn answer<I: Source, O: Sink, L: Ledger>(
             with_cell(alloc, request, input, out, steps)
         }
         Command::Hall => with_symbol(alloc, argument(words), out),
+        Command::Identify => with_table(alloc, argument(words), input, shelf, out, steps),
         Command::Selfrun(seed) => with_seed(alloc, seed, out, steps),
     }
 }

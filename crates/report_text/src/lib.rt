@@ -12,6 +12,8 @@ mod primitives;
 
 pub use cell_print::print_cell;
 pub use dataset::dataset_report;
+pub use group_match::Maps;
+pub use match_text::match_report;
 pub use operation_text::{ops_report, pages_resume};
 pub use orbit_lines::orbit_report;
 pub use primitives::prim_report;

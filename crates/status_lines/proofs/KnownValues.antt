@@ -5,14 +5,15 @@ use Rattle.std.specs.Fmt.{digits}
 use Rattle.cell_text.specs.declared.fault.CellFault.TheVariants.{NotMagcell, BadByte, BadLine, BadNumber, NumberRange, ZeroDenominator, MetricTwice, MetricMissing, MetricRange, NotPositive, PositionRange, MomentRange, TooManyAtoms, NoAtom, SamePlace, NoEnd, AfterEnd}
 use Rattle.command_words.specs.declared.command.UsageFault.TheVariants.{NoCommand, UnknownCommand, UnknownOption, RepeatedOption, MissingValue, BadValue, MissingWord, ExtraWord}
 use Rattle.hall_symbol.specs.declared.fault.HallFault.TheVariants.{Empty, BadToken}
-use Rattle.hall_text.specs.declared.fault.RowFault.TheVariants.{Symbol, TooManyMatrices}
+use Rattle.hall_text.specs.declared.fault.RowFault.TheVariants.{Symbol, TooManyMatrices, TooManyRows, BadRow}
+use Rattle.crystal_spec.specs.Matrices.{identity}
 use Rattle.report_basis.specs.declared.Kept.TheVariants.{NoBase}
-use Rattle.status_lines.specs.declared.status.Status.TheVariants.{Done, Usage, CellTooLong, CellRefused, SymbolRefused, ReadFault, WriteFault, Memory}
+use Rattle.status_lines.specs.declared.status.Status.TheVariants.{Done, NoMatch, Usage, CellTooLong, CellRefused, SymbolRefused, TableRefused, TableTooLong, ReadFault, WriteFault, Memory}
 use Rattle.status_lines.specs.Statuses.{number_of, line_of}
 
 -- ---- exit statuses
 
-numbers : map number_of (Done NoBase ∷ Usage NoCommand ∷ CellTooLong ∷ CellRefused 1 NotMagcell ∷ SymbolRefused TooManyMatrices ∷ ReadFault ∷ WriteFault 0 NoBase ∷ Memory ∷ []) ≡ 0 ∷ 2 ∷ 3 ∷ 3 ∷ 4 ∷ 5 ∷ 6 ∷ 7 ∷ []
+numbers : map number_of (Done NoBase ∷ NoMatch identity ∷ Usage NoCommand ∷ CellTooLong ∷ CellRefused 1 NotMagcell ∷ SymbolRefused TooManyMatrices ∷ TableRefused 1 BadRow ∷ TableTooLong ∷ ReadFault ∷ WriteFault 0 NoBase ∷ Memory ∷ []) ≡ 0 ∷ 1 ∷ 2 ∷ 3 ∷ 3 ∷ 4 ∷ 4 ∷ 4 ∷ 5 ∷ 6 ∷ 7 ∷ []
 numbers = refl
 
 -- ---- lines
@@ -124,6 +125,20 @@ line_of_bad_token = refl
 
 line_of_many_matrices : line_of (SymbolRefused TooManyMatrices) ≡ codes "magsym: symbol: more than 48 matrices\n"
 line_of_many_matrices = refl
+
+line_of_no_match : line_of (NoMatch identity) ≡ codes ""
+line_of_no_match = refl
+
+line_of_bad_row : line_of (TableRefused 12 BadRow) ≡ codes "magsym: row 12: row has no known form\n"
+unfolding digits
+line_of_bad_row = refl
+
+line_of_many_rows : line_of (TableRefused 4001 TooManyRows) ≡ codes "magsym: row 4001: more than 4000 rows\n"
+unfolding digits
+line_of_many_rows = refl
+
+line_of_long_table : line_of TableTooLong ≡ codes "magsym: table is longer than 1048576 bytes\n"
+line_of_long_table = refl
 
 line_of_read_fault : line_of ReadFault ≡ codes "magsym: reading failed\n"
 line_of_read_fault = refl

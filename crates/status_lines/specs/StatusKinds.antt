@@ -7,7 +7,7 @@
 --   IsDoneOrMemory kind the whole report is written, or memory was wanting
 -- Our own.
 use Rattle.status_lines.specs.declared.status.Status.{Status}
-use Rattle.status_lines.specs.declared.status.Status.TheVariants.{Done, Usage, CellTooLong, CellRefused, SymbolRefused, ReadFault, WriteFault, Memory}
+use Rattle.status_lines.specs.declared.status.Status.TheVariants.{Done, NoMatch, Usage, CellTooLong, CellRefused, SymbolRefused, TableRefused, TableTooLong, ReadFault, WriteFault, Memory}
 
 -- the whole report is written; the writing of one failed; the words are outside the rule; what was read is refused, or could
 -- not be read; memory was wanting
@@ -21,10 +21,13 @@ pub data StatusKind : Type 0 where
 abbrev pub kind_of : Status → StatusKind
 kind_of (Done kept) = whole
 kind_of (WriteFault written kept) = cut
+kind_of (NoMatch q) = whole
 kind_of (Usage fault) = usage
 kind_of CellTooLong = refused
 kind_of (CellRefused line fault) = refused
 kind_of (SymbolRefused fault) = refused
+kind_of (TableRefused row fault) = refused
+kind_of TableTooLong = refused
 kind_of ReadFault = refused
 kind_of Memory = wanting
 

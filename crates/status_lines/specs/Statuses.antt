@@ -11,14 +11,17 @@ use Rattle.cell_text.specs.declared.fault.CellFault.TheVariants.{NotMagcell, Bad
 use Rattle.command_words.specs.declared.command.UsageFault.{UsageFault}
 use Rattle.command_words.specs.declared.command.UsageFault.TheVariants.{NoCommand, UnknownCommand, UnknownOption, RepeatedOption, MissingValue, BadValue, MissingWord, ExtraWord}
 use Rattle.status_lines.specs.declared.status.Status.{Status}
-use Rattle.status_lines.specs.declared.status.Status.TheVariants.{Done, Usage, CellTooLong, CellRefused, SymbolRefused, ReadFault, WriteFault, Memory}
+use Rattle.status_lines.specs.declared.status.Status.TheVariants.{Done, NoMatch, Usage, CellTooLong, CellRefused, SymbolRefused, TableRefused, TableTooLong, ReadFault, WriteFault, Memory}
 
 abbrev pub number_of : Status → ℕ
 number_of (Done kept) = 0
+number_of (NoMatch q) = 1
 number_of (Usage fault) = 2
 number_of CellTooLong = 3
 number_of (CellRefused line fault) = 3
 number_of (SymbolRefused fault) = 4
+number_of (TableRefused row fault) = 4
+number_of TableTooLong = 4
 number_of ReadFault = 5
 number_of (WriteFault written kept) = 6
 number_of Memory = 7
@@ -59,10 +62,13 @@ fault_text AfterEnd = AFTER_END.now
 
 abbrev pub line_of : Status → List ℕ
 line_of (Done kept) = []
+line_of (NoMatch q) = []
 line_of (Usage fault) = usage_line fault
 line_of CellTooLong = told (codes "cell is longer than 262144 bytes")
 line_of (CellRefused line fault) = told (codes "line " ++ decimal line ++ codes ": " ++ fault_text fault)
 line_of (SymbolRefused fault) = told (codes "symbol: " ++ row_text fault)
+line_of (TableRefused row fault) = told (codes "row " ++ decimal row ++ codes ": " ++ row_text fault)
+line_of TableTooLong = told (codes "table is longer than 1048576 bytes")
 line_of ReadFault = told (codes "reading failed")
 line_of (WriteFault written kept) = told (codes "writing failed")
 line_of Memory = told OUT_OF_MEMORY.now

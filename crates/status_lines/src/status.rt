@@ -3,7 +3,9 @@ ghost use Rattle.status_lines.specs.Statuses.{number_of};
 
 use cell_text::CellFault;
 use command_words::UsageFault;
+use exact_num::Int;
 use hall_text::RowFault;
+use matrix3::Mat3;
 use report_basis::Kept;
 
 /// How a run ended.
@@ -11,6 +13,10 @@ use report_basis::Kept;
 pub enum Status {
     /// The whole report is written.
     Done(Kept),
+
+    /// The whole report of `identify` is written, and no row of the table is matched. It speaks of the basis to which Q
+    /// takes coordinates.
+    NoMatch(Mat3<Int>),
 
     /// The words ask for nothing, for this fault.
     Usage(UsageFault),
@@ -24,7 +30,13 @@ pub enum Status {
     /// The symbol of `hall` has this fault.
     SymbolRefused(RowFault),
 
-    /// The input could not be read to its end.
+    /// The table has this fault first, in the row with this number, from 1.
+    TableRefused(u32, RowFault),
+
+    /// The table has more than 1,048,576 bytes.
+    TableTooLong,
+
+    /// The input or the table could not be read to its end, or there is no table of this name.
     ReadFault,
 
     /// The output failed once so many first bytes of the report were out.
@@ -41,9 +53,10 @@ impl Status {
     {
         match self {
             Status::Done(_) => 0,
+            Status::NoMatch(_) => 1,
             Status::Usage(_) => 2,
             Status::CellTooLong | Status::CellRefused(_, _) => 3,
-            Status::SymbolRefused(_) => 4,
+            Status::SymbolRefused(_) | Status::TableRefused(_, _) | Status::TableTooLong => 4,
             Status::ReadFault => 5,
             Status::WriteFault(_, _) => 6,
             Status::Memory => 7,

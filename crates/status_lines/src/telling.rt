@@ -1,7 +1,7 @@
 ghost use Rattle.std.specs.Prelude.{◌≡◌, ◌≤◌, ◌++◌, map, codes, decimal};
 ghost use Rattle.std.specs.List.{concat};
 ghost use Rattle.status_lines.specs.Telling.{Tells};
-ghost use Rattle.status_lines.specs.declared.status.Status.TheVariants.{CellRefused, SymbolRefused};
+ghost use Rattle.status_lines.specs.declared.status.Status.TheVariants.{CellRefused, SymbolRefused, TableRefused};
 ghost use Rattle.cell_text.specs.declared.fault.CellFault.TheVariants.{SamePlace};
 ghost use Rattle.hall_symbol.specs.FaultTexts.{digits_of};
 ghost use Rattle.status_lines.specs.StatusKinds.{kind_of, IsDone};
@@ -135,6 +135,29 @@ fn tell_symbol<E: Sink>(err: &mut E, fault: &RowFault)
     );
 }
 
+/// Writes the line on a table that is refused.
+fn tell_table<E: Sink>(err: &mut E, row: u32, fault: &RowFault)
+    ensures told { Tells E.highest_count (E.state err.old) (E.state err.new) (line_of (TableRefused row fault.now)) }
+    ensures later { (E.state err.old).faults ≤ (E.state err.new).faults }
+{
+    let text = fault.text();
+    let (mut row_buffer, mut buffer) = (Buffer::new(), Buffer::new());
+    let row = row_buffer.format(row).as_bytes();
+    let number = digits(text.number, &mut buffer);
+    tell_pieces(
+        err,
+        &[
+            b"magsym: row ".as_slice(),
+            row,
+            b": ",
+            text.front.as_bytes(),
+            number,
+            text.back.as_bytes(),
+            b"\n",
+        ],
+    );
+}
+
 /// Writes the line of a status: nothing after a whole report. A failed write leaves out the rest of the line.
 pub fn tell<E: Sink>(err: &mut E, status: &Status)
     ensures told { Tells E.highest_count (E.state err.old) (E.state err.new) (line_of status.now) }
@@ -143,7 +166,7 @@ pub fn tell<E: Sink>(err: &mut E, status: &Status)
 {
     match status {
         Status::CellRefused(line, fault) => tell_refused(err, *line, fault),
-        Status::Done(_) => {}
+        Status::Done(_) | Status::NoMatch(_) => {}
         Status::Usage(UsageFault::NoCommand) => tell_text(err, b"no command"),
         Status::Usage(UsageFault::UnknownCommand) => tell_text(err, b"unknown command"),
         Status::Usage(UsageFault::UnknownOption) => tell_text(err, b"unknown option"),
@@ -156,6 +179,8 @@ pub fn tell<E: Sink>(err: &mut E, status: &Status)
         Status::Usage(UsageFault::ExtraWord) => tell_text(err, b"too many words"),
         Status::Usage(UsageFault::MissingWord) => tell_text(err, b"command needs one more word"),
         Status::SymbolRefused(fault) => tell_symbol(err, fault),
+        Status::TableRefused(row, fault) => tell_table(err, *row, fault),
+        Status::TableTooLong => tell_text(err, b"table is longer than 1048576 bytes"),
         Status::CellTooLong => tell_text(err, b"cell is longer than 262144 bytes"),
         Status::ReadFault => tell_text(err, b"reading failed"),
         Status::WriteFault(_, _) => tell_text(err, b"writing failed"),

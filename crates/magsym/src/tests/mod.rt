@@ -6,6 +6,7 @@
 mod dataset;
 mod faults;
 mod hall;
+mod identify;
 mod oblique;
 mod orbits;
 mod pages;
@@ -15,7 +16,7 @@ mod symmetry;
 mod usage;
 
 use command_words::Words;
-use io_edge::{Bytes, MemSink, MemSource};
+use io_edge::{Bytes, MemShelf, MemSink, MemSource};
 use magsym_run::run_counted;
 use status_lines::Status;
 use std::alloc::{AllocError, Global};
@@ -77,11 +78,17 @@ enum Ends {
     /// With a report of so many lines, and these bytes at its front, somewhere, and at its end.
     Parts(usize, &'static [u8], &'static [u8], &'static [u8]),
 
+    /// With these bytes as the report, in which no row is matched.
+    Unmatched(&'static [u8]),
+
     /// With no report, but this exit status and line.
     Refused(u8, &'static [u8]),
 
     /// As the call of this number of the input fails.
     ReadFails(u64),
+
+    /// As the call of this number of the store of tables fails.
+    ShelfFails(u64),
 
     /// As the call of this number of the output fails, behind these bytes.
     WriteFails(u64, &'static [u8]),
@@ -93,10 +100,11 @@ enum Ends {
 /// The words, parted by commas, the input, and how the run over them has to end.
 struct Row(&'static str, &'static [u8], Ends);
 
-/// The input, the output and the error stream of a run.
+/// The input, the store of tables, the output and the error stream of a run.
 #[derive(Drop)]
 struct Streams {
     input: MemSource,
+    shelf: MemShelf,
     out: MemSink,
     err: MemSink,
 }
@@ -113,23 +121,25 @@ fn asked(alloc: Global, words: &str) -> Result<Words, AllocError> {
     Ok(asked)
 }
 
-/// An input of these bytes, and two outputs that hold nothing.
-fn opened(alloc: Global, input: &[u8], fails: &[u64; 3]) -> Result<Streams, AllocError> {
+/// An input of these bytes, a store without files, and two outputs that hold nothing.
+fn opened(alloc: Global, input: &[u8], fails: &[u64; 4]) -> Result<Streams, AllocError> {
     Ok(Streams {
         input: MemSource::new(alloc, input, MOST, &fails[0..1])?,
-        out: MemSink::new(alloc, MOST, &fails[1..2])?,
-        err: MemSink::new(alloc, MOST, &fails[2..3])?,
+        shelf: MemShelf::new(alloc, MOST, &fails[1..2])?,
+        out: MemSink::new(alloc, MOST, &fails[2..3])?,
+        err: MemSink::new(alloc, MOST, &fails[3..4])?,
     })
 }
 
 /// How the run over these words and streams ends.
 fn ran(alloc: Global, words: &Words, streams: &mut Streams) -> Status {
     let blank = Blank::new(1);
-    run_counted::<Brand, _, _, _>(
+    run_counted::<Brand, _, _, _, _>(
         alloc,
         blank,
         words,
         &mut streams.input,
+        &mut streams.shelf,
         &mut streams.out,
         &mut streams.err,
     )
@@ -159,13 +169,14 @@ fn is_like(report: &[u8], count: usize, front: &[u8], within: &[u8], end: &[u8])
 }
 
 impl Ends {
-    /// The numbers of the calls that fail on the input, the output and the error stream; 0 fails at none.
-    fn fails(&self) -> [u64; 3] {
+    /// The numbers of the calls that fail on the input, the store, the output and the error stream; 0 fails at none.
+    fn fails(&self) -> [u64; 4] {
         match self {
-            Ends::ReadFails(call) => [*call, 0, 0],
-            Ends::WriteFails(call, _) => [0, *call, 0],
-            Ends::TellFails(call, _, _) => [0, 0, *call],
-            _ => [0, 0, 0],
+            Ends::ReadFails(call) => [*call, 0, 0, 0],
+            Ends::ShelfFails(call) => [0, *call, 0, 0],
+            Ends::WriteFails(call, _) => [0, 0, *call, 0],
+            Ends::TellFails(call, _, _) => [0, 0, 0, *call],
+            _ => [0, 0, 0, 0],
         }
     }
 
@@ -174,7 +185,8 @@ impl Ends {
         match self {
             Ends::Whole(_) | Ends::Parts(_, _, _, _) => 0,
             Ends::Refused(number, _) | Ends::TellFails(_, number, _) => *number,
-            Ends::ReadFails(_) => 5,
+            Ends::Unmatched(_) => 1,
+            Ends::ReadFails(_) | Ends::ShelfFails(_) => 5,
             Ends::WriteFails(_, _) => 6,
         }
     }
@@ -182,9 +194,9 @@ impl Ends {
     /// The bytes on the error stream.
     fn line(&self) -> &'static [u8] {
         match self {
-            Ends::Whole(_) | Ends::Parts(_, _, _, _) => b"",
+            Ends::Whole(_) | Ends::Unmatched(_) | Ends::Parts(_, _, _, _) => b"",
             Ends::Refused(_, line) | Ends::TellFails(_, _, line) => line,
-            Ends::ReadFails(_) => b"magsym: reading failed\n",
+            Ends::ReadFails(_) | Ends::ShelfFails(_) => b"magsym: reading failed\n",
             Ends::WriteFails(_, _) => b"magsym: writing failed\n",
         }
     }
@@ -192,7 +204,9 @@ impl Ends {
     /// Whether these bytes may be on the output.
     fn allows(&self, report: &[u8]) -> bool {
         match self {
-            Ends::Whole(bytes) | Ends::WriteFails(_, bytes) => report == *bytes,
+            Ends::Whole(bytes) | Ends::Unmatched(bytes) | Ends::WriteFails(_, bytes) => {
+                report == *bytes
+            }
             Ends::Parts(count, front, within, end) => is_like(report, *count, front, within, end),
             _ => report.is_empty(),
         }

@@ -1,0 +1,25 @@
+use Rattle.std.proofs.Common.{ℕ, subst, sym}
+use Rattle.op_group.specs.Groups.{IsGroupModulo}
+use Rattle.match_spec.specs.FirstMap.{HasFewMatrices}
+use Rattle.answers.proofs.IdentifyLemmas.{row_map}
+use Rattle.answers.proofs.identify.map_of.Goals as goal
+
+-- the group of the symbol, and what is known of the found one
+pub match_row-requires : goal.match_row-requires
+match_row-requires c =
+    let list = c.in-Ok.list in
+    let made = c.in-Ok.ensures in
+    let few : HasFewMatrices 48 list.operations = record { matrices = made.few_matrices.matrices; all = made.few_matrices.all; few = made.few_matrices.few } in
+    record {
+      twelfths = made.n;
+      symbol_group = subst (λ (n : ℕ). IsGroupModulo n list.operations) (sym made.n) made.group;
+      found_group = c.requires.group;
+      primitive = c.requires.primitive;
+      few = few;
+      symbol_entries = made.entries;
+      found_entries = c.requires.entries;
+      found_n = c.requires.n;
+    }
+
+pub returns : goal.returns
+returns c = row_map c.args.found.now.n c.args.found.now.operations c.in-Ok.list.operations c.args.symbol.now c.match_row.result c.in-Ok.ensures.exact c.match_row.ensures.found c.match_row.ensures.absent
