@@ -75,7 +75,7 @@ FAULTS = {
     "BadScrew": "token {} has a wrong screw digit",
     "BadShift": "shift has no known form",
     "TooManyMatrices": "more than 48 matrices",
-    "TooManyRows": "more than 2000 rows",
+    "TooManyRows": "more than 4000 rows",
     "BadRow": "row has no known form",
 }
 
@@ -342,7 +342,7 @@ def lines_of(data):
 
 def row_of(line, before):
     """A row behind so many: a name of 1 to 32 bytes, a symbol to the end of the line; a tab counts as a space."""
-    if before == 2000:
+    if before == 4000:
         raise Fault("TooManyRows")
     if any(byte != 9 and not 32 <= byte <= 126 for byte in line):
         raise Fault("BadRow")
@@ -354,7 +354,7 @@ def row_of(line, before):
 
 
 def read_table(data):
-    """The rows of a table, at most 2,000. Lines without words, and lines that begin with `#`, are skipped."""
+    """The rows of a table, at most 4,000. Lines without words, and lines that begin with `#`, are skipped."""
     rows = []
     for line in lines_of(data):
         words = line.replace(b"\t", b" ").strip(b" ")

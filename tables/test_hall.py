@@ -89,8 +89,8 @@ TABLES = [
     (b"N" * 33 + b" P 1", "row 1: row has no known form"),
     (b"A P 1\nB P 4 4\n", "row 2: token 2 needs an axis"),
     (b"A P 6 3*\nB Q\n", "row 1: more than 48 matrices"),
-    (b"A P 1\n" * 2000, [("A", "P 1")] * 2000),
-    (b"A P 1\n" * 2000 + b"B\n", "row 2001: more than 2000 rows"),
+    (b"A P 1\n" * 4000, [("A", "P 1")] * 4000),
+    (b"A P 1\n" * 4000 + b"B\n", "row 4001: more than 4000 rows"),
 ]
 
 
