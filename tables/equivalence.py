@@ -28,6 +28,15 @@ def transpose(matrix):
     return matrix[0::3] + matrix[1::3] + matrix[2::3]
 
 
+def cross(u, v):
+    return (u[1] * v[2] - u[2] * v[1], u[2] * v[0] - u[0] * v[2], u[0] * v[1] - u[1] * v[0])
+
+
+def adjugate(m):
+    first, second, third = hall.rows_of(m)
+    return transpose(cross(second, third) + cross(third, first) + cross(first, second))
+
+
 def proper_axes():
     """The 24 matrices of determinant 1 with one 1 or -1 in each row and column, the identity first."""
     found = []
