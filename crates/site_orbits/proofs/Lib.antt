@@ -1,9 +1,9 @@
 mod Walking
-mod Carrying
-mod Equivalence
+pub mod Carrying
+pub mod Equivalence
 mod Counting
 mod Stabilizer
 mod Fixing
-mod Small
+pub mod Small
 mod Making
 mod KnownValues

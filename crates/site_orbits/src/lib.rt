@@ -13,3 +13,4 @@ mod position;
 
 pub use atom_orbits::Orbits;
 pub use equivalent::orbits;
+pub use position::place_in_basis;
