@@ -1,0 +1,42 @@
+-- The lines of the atoms, one after another.
+use Rattle.std.proofs.Common.{◌≡◌, sym, ap, ◌∙◌, ℕ, zero, suc, ◌+◌, List, [], ◌∷◌, ◌++◌, get_or, drop, Some, add-one, append_assoc}
+use Rattle.std.specs.Prelude.{slice_get}
+use Rattle.std.proofs.lemmas.Option.{get_or_from_slice_get}
+use Rattle.crystal_spec.specs.declared.MomentKind.{MomentKind}
+use Rattle.crystal_spec.specs.Crystals.{Site}
+use Rattle.site_orbits.specs.Entries.{AtomOrbit}
+use Rattle.moment_space.specs.Projectors.{AllowedMoments}
+use Rattle.moments_text.specs.MomentsText.{atom_text, atom_lines, allowed_by}
+
+drop_suc : {X : Type 0} (xs : List X) (i : ℕ) (x : X) → slice_get xs i ≡ Some x → drop i xs ≡ x ∷ drop (suc i) xs
+drop_suc [] i x e = absurd (cc e)
+drop_suc (y ∷ ys) zero x e = let h : Some y ≡ Some x = e in ap (λ z. z ∷ ys) (cc h)
+drop_suc (y ∷ ys) (suc i) x e = drop_suc ys i x e
+
+-- the elements from number i on are that one and those behind it
+drop_at : {X : Type 0} (xs : List X) (i : ℕ) (x : X) → slice_get xs i ≡ Some x → drop i xs ≡ x ∷ drop (i + 1) xs
+drop_at xs i x e = drop_suc xs i x e ∙ ap (λ (k : ℕ). x ∷ drop k xs) (sym (add-one i))
+
+module _ (kind : MomentKind) (names : List (List ℕ)) where
+  lines_at : (k : ℕ) (sites : List Site) (orbits : List AtomOrbit) (a : Site) (o : AtomOrbit) (more : List Site) (others : List AtomOrbit) → sites ≡ a ∷ more → orbits ≡ o ∷ others →
+      atom_lines kind names k sites orbits ≡ atom_text k (get_or names a.species []) (allowed_by kind o.site.operations) ++ atom_lines kind names (k + 1) more others
+  lines_at k sites orbits a o more others s e = ap (λ (xs : List Site). atom_lines kind names k xs orbits) s ∙ ap (λ (ys : List AtomOrbit). atom_lines kind names k (a ∷ more) ys) e
+
+  -- the line of one atom more, which has the number k
+  pub atoms_more : (sites : List Site) (orbits : List AtomOrbit) (i k : ℕ) (a : Site) (o : AtomOrbit) (name : List ℕ) (allowed : AllowedMoments) (out old pushed : List ℕ) →
+      slice_get sites i ≡ Some a → slice_get orbits i ≡ Some o → slice_get names a.species ≡ Some name → allowed ≡ allowed_by kind o.site.operations →
+      out ++ atom_lines kind names k (drop i sites) (drop i orbits) ≡ old → pushed ≡ out ++ atom_text k name allowed →
+      pushed ++ atom_lines kind names (k + 1) (drop (i + 1) sites) (drop (i + 1) orbits) ≡ old
+  atoms_more sites orbits i k a o name allowed out old pushed at here named is so_far e =
+      let rest = atom_lines kind names (k + 1) (drop (i + 1) sites) (drop (i + 1) orbits) in
+      let word : get_or names a.species [] ≡ name = get_or_from_slice_get names a.species name [] named in
+      let line : atom_text k name allowed ≡ atom_text k (get_or names a.species []) (allowed_by kind o.site.operations) =
+      ap (λ (m : List ℕ). atom_text k m allowed) (sym word) ∙ ap (atom_text k (get_or names a.species [])) is in
+      ap (λ (z : List ℕ). z ++ rest) (e ∙ ap (λ (z : List ℕ). out ++ z) line)
+      ∙ append_assoc out (atom_text k (get_or names a.species []) (allowed_by kind o.site.operations)) rest
+      ∙ ap (λ (z : List ℕ). out ++ z) (sym (lines_at k (drop i sites) (drop i orbits) a o (drop (i + 1) sites) (drop (i + 1) orbits) (drop_at sites i a at) (drop_at orbits i o here)))
+      ∙ so_far
+
+-- an orbit of the numbers 0 and 0
+pub no_orbit : AtomOrbit
+no_orbit = record { first = 0; size = 0; site = record { n = 0; operations = [] } }

@@ -1,0 +1,3 @@
+pub mod AllowedCounts
+pub mod AtomLines
+mod KnownValues

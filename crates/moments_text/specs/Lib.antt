@@ -1,0 +1,2 @@
+pub mod MomentsText
+pub mod FilledText
