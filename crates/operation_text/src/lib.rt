@@ -11,5 +11,5 @@ mod operations;
 mod pages;
 
 pub use entries::push_entries;
-pub use operations::{ops_report, push_parts};
+pub use operations::{ops_report, push_parts, push_sign, push_terms};
 pub use pages::pages_resume;

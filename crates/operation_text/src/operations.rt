@@ -51,8 +51,14 @@ fn push_term(
     }
 }
 
-/// Adds the terms in x, y and z.
-fn push_terms(alloc: Global, out: &mut Bytes, x: i128, y: i128, z: i128) -> Result<(), AllocError>
+/// Adds the terms in x, y and z of these coefficients. Refuses for want of memory alone.
+pub fn push_terms(
+    alloc: Global,
+    out: &mut Bytes,
+    x: i128,
+    y: i128,
+    z: i128,
+) -> Result<(), AllocError>
     ensures { OnOk result (out.new ≡ out.old ++ terms_text x y z) }
 {
     push_term(alloc, out, true, x, b'x')?;
@@ -91,8 +97,8 @@ fn push_row(
     Ok(())
 }
 
-/// Adds the time sign.
-fn push_sign(out: &mut Bytes, sign: Sign) -> Result<(), AllocError>
+/// Adds the time sign, `+1` or `-1`. Refuses for want of memory alone.
+pub fn push_sign(out: &mut Bytes, sign: Sign) -> Result<(), AllocError>
     ensures { OnOk result (out.new ≡ out.old ++ sign_text sign) }
 {
     match sign {
