@@ -1,0 +1,59 @@
+-- Sizes of what is computed: matrices of entries -1, 0 and 1 leave the numbers far below the 10^36 of an integer.
+--
+-- A metric tensor up to 10^16 becomes one up to 9 · 10^16 in the other basis and 9 · 10^32 in its units; a moment up to
+-- 2 · 10^27 has an image up to 6 · 10^27, and 6 · 10^33 in units of 1/(k k'). In common units a metric tensor has entries up
+-- to 10^32, and scalar products of small columns up to 9 · 10^32.
+use Rattle.std.proofs.Common.{◌≡◌, ℕ, ◌+◌, ◌*◌, ◌^◌, ◌≤◌, sym, subst, lit≤, ℤ, pos, ◌≤ℤ◌, ◌<ℤ◌, arith, mul-le-mul}
+use Rattle.std.proofs.lemmas.Int.{ints}
+use Rattle.crystal_spec.specs.Operations.{IsWithinCell}
+use Rattle.ring.specs.Ring.{int_ops}
+use Rattle.ring.specs.Size.{AtMost}
+use Rattle.ring.proofs.Sizes.{at_most_mul, at_most_add, weaken}
+use Rattle.matrix3.specs.Fits.{DotFits, ImageFits}
+use Rattle.crystal_spec.specs.Matrices.{Matrix, Triple, image}
+use Rattle.crystal.specs.Bounds.{EntriesAtMost, CoordinatesAtMost}
+use Rattle.crystal.proofs.Ranges.{grown, at_most_image, coordinates_grown, image_fits}
+
+pub entries_grown : {m n : ℕ} {a : Matrix} → m ≤ n → EntriesAtMost m a → EntriesAtMost n a
+entries_grown p h = record {
+  a11 = grown p h.a11;
+  a12 = grown p h.a12;
+  a13 = grown p h.a13;
+  a21 = grown p h.a21;
+  a22 = grown p h.a22;
+  a23 = grown p h.a23;
+  a31 = grown p h.a31;
+  a32 = grown p h.a32;
+  a33 = grown p h.a33;
+}
+
+-- the image of a moment
+pub moment_image : (l : Matrix) (m : Triple) → EntriesAtMost 1 l → CoordinatesAtMost (2 * 10 ^ 27) m → CoordinatesAtMost (10 ^ 28) (image l m)
+moment_image l m h k = coordinates_grown {v = image l m} (lit≤ tt) (at_most_image 1 (2 * 10 ^ 27) l m h k)
+
+-- the products and sums of a metric tensor in common units applied to a small column
+pub metric_image_fits : (g : Matrix) (v : Triple) → EntriesAtMost (10 ^ 34) g → CoordinatesAtMost 1 v → ImageFits int_ops (AtMost (10 ^ 36)) g v
+metric_image_fits g v h k = image_fits (10 ^ 34) 1 g v (lit≤ tt) h k
+
+-- those of a small column and that image
+pub products_fit : (g : Matrix) (u v w : Triple) → EntriesAtMost (10 ^ 34) g → CoordinatesAtMost 1 u → CoordinatesAtMost 1 v → w ≡ image g v → DotFits int_ops (AtMost (10 ^ 36)) u.x u.y u.z w.x w.y w.z
+products_fit g u v w h s k e =
+    let n = 10 ^ 34 * 1 + 10 ^ 34 * 1 + 10 ^ 34 * 1 in
+    let r : CoordinatesAtMost n w = subst (CoordinatesAtMost n) (sym e) (at_most_image (10 ^ 34) 1 g v h k) in
+    let x = at_most_mul s.x r.x in
+    let y = at_most_mul s.y r.y in
+    let z = at_most_mul s.z r.z in
+    record { first = weaken (10 ^ 36) x tt; second = weaken (10 ^ 36) y tt; third = weaken (10 ^ 36) z tt; two = weaken (10 ^ 36) (at_most_add x y) tt; three = weaken (10 ^ 36) (at_most_add (at_most_add x y) z) tt }
+
+-- translation parts within one cell, in steps
+pub steps_small : (n m : ℕ) (t : Triple) → n ≤ 10 ^ 6 → m ≤ 10 ^ 6 → IsWithinCell (n * m) t → CoordinatesAtMost (10 ^ 14) t
+steps_small n m t h k w = record { x = by t.x w.x.0 w.x.1; y = by t.y w.y.0 w.y.1; z = by t.z w.z.0 w.z.1 }
+  where
+    few : n * m ≤ 10 ^ 6 * 10 ^ 6
+    few = mul-le-mul h k
+
+    by : (z : ℤ) → pos 0 ≤ℤ z → z <ℤ pos (n * m) → AtMost (10 ^ 14) z
+    by z low high = small (n * m) z few low high
+      where
+        small : (l : ℕ) (z : ℤ) → l ≤ 10 ^ 6 * 10 ^ 6 → pos 0 ≤ℤ z → z <ℤ pos l → AtMost (10 ^ 14) z
+        small l z few low high = record { size = omega (arith, ints, few, low, high) }

@@ -1,0 +1,10 @@
+use Rattle.std.specs.Prelude.{◌↔◌, ◌⊎◌, ℕ}
+use Rattle.crystal_spec.specs.Increasing.{IsMember}
+use Rattle.crystal_spec.specs.Operations.{Operation}
+use Rattle.lattice_iso.specs.Columns.{candidate}
+use Rattle.crystal_compare.specs.Search.{AnyBelow, IsMapOfTwo}
+use Rattle.crystal_compare.proofs.search.add_of_one.Given as goal
+
+-- found so far: those that were there, and exactly those of the second columns so far
+abbrev pub invariant-loop-number : goal.invariant-loop-number
+invariant-loop-number l = (o : Operation) → IsMember o l.found ↔ (AnyBelow l.number (λ (k : ℕ). IsMapOfTwo l.one l.other l.a (candidate k) o) ⊎ IsMember o l.initial.found)

@@ -1,0 +1,271 @@
+// The search for all maps between two cells.
+
+ghost use Rattle.std.specs.Prelude.{◌≡◌, ◌↔◌, ◌⊎◌, ◌<◌, ◌≤◌, ◌*◌, ◌^◌, ◌<ℤ◌, ℕ, pos, length, IfOk, OnOk};
+ghost use Rattle.ring.specs.Size.{AtMost};
+ghost use Rattle.crystal_spec.specs.Increasing.{IsMember};
+ghost use Rattle.crystal_spec.specs.Matrices.{determinant, difference, image, multiple};
+ghost use Rattle.crystal_spec.specs.Operations.{Operation, IsWithinCell};
+ghost use Rattle.crystal.specs.Views.{site_of, triple_of};
+ghost use Rattle.crystal.specs.Bounds.{EntriesAtMost, CoordinatesAtMost};
+ghost use Rattle.crystal.specs.Carrying.{FoldsTo};
+ghost use Rattle.lattice_iso.specs.Columns.{of_columns};
+ghost use Rattle.crystal_compare.specs.Steps.{operation_of};
+ghost use Rattle.crystal_compare.specs.Search.{steps, AreMetricsOf, IsFolded, IsIsometry, IsMapAs, IsMapOnto, IsMapBy, IsMapOfTwo, IsMapOfOne, IsMapOfColumns, IsSmallMap, IsFoldedOnto};
+
+use crate::atoms::{column, have_one_name, multiple, whole};
+use crate::columns::{
+    CANDIDATES, candidate, is_first_column, is_second_column, is_third_column, of_columns,
+};
+use crate::images::is_onto;
+use crate::matrices::{Metrics, is_isometry, metrics_of};
+use crate::whole_map::{WholeMap, WholeMaps};
+use crystal::{Atom, Cell, Places, Sign};
+use exact_num::Int;
+use matrix3::{Mat3, Vec3};
+use std::alloc::{AllocError, Global};
+
+/// The number from 0 to n - 1 from which z differs by a multiple of n.
+fn folded(z: Int, n: Int) -> Int
+    requires { pos 0 <ℤ n }
+    ensures { IsFolded n z result }
+{
+    Int::new(z.get().rem_euclid(n.get())).unwrap()
+}
+
+/// The translation part, in steps, with which the matrix carries one position onto another, but for whole cells.
+///
+/// The first position is in units of 1/n, the second in units of 1/m, and a step is 1/(n m).
+fn translation_onto(w: &Mat3<Int>, from: [u32; 3], onto: [u32; 3], n: u32, m: u32) -> Vec3<Int>
+    requires map { EntriesAtMost 1 w.now }
+    requires n_at_least { 1 ≤ n }
+    requires n_at_most { n ≤ 10 ^ 6 }
+    requires m_at_least { 1 ≤ m }
+    requires m_at_most { m ≤ 10 ^ 6 }
+    ensures { FoldsTo (n * m) (difference (multiple (pos n) (triple_of onto)) (multiple (pos m) (image w.now (triple_of from)))) result }
+{
+    let image = w.apply(&column(from));
+    let u = multiple(n, &column(onto));
+    let v = multiple(m, &image);
+    let all = whole(n) * whole(m);
+    Vec3 {
+        x: folded(u.x - v.x, all),
+        y: folded(u.y - v.y, all),
+        z: folded(u.z - v.z, all),
+    }
+}
+
+/// Puts the map into the list, where it carries the one crystal onto the other.
+fn add_map(
+    one: &Cell,
+    other: &Places,
+    map: &WholeMap,
+    found: &mut WholeMaps,
+) -> Result<(), AllocError>
+    requires small { EntriesAtMost 1 map.now.w }
+    requires isometry { IsIsometry one.now other.now map.now.w }
+    requires kind { other.now.kind ≡ one.now.kind }
+    requires within { IsWithinCell (steps one.now other.now) map.now.shift }
+    ensures members { OnOk result ((o : Operation) → IsMember o found.new ↔ (IsMapAs one.now other.now (operation_of map.now) o ⊎ IsMember o found.old)) }
+{
+    if is_onto(one, other, map) {
+        found.insert(*map)?;
+    }
+    Ok(())
+}
+
+/// The map of these parts.
+fn map_of(w: &Mat3<Int>, shift: &Vec3<Int>, sign: Sign) -> WholeMap
+    ensures { result ≡ record { w = w.now; shift = shift.now; sign = sign } }
+{
+    WholeMap {
+        w: *w,
+        shift: *shift,
+        sign,
+    }
+}
+
+/// Puts the maps of this matrix that carry the one atom onto the other into the list, with and without time reversal.
+fn add_onto(
+    one: &Cell,
+    other: &Places,
+    w: &Mat3<Int>,
+    from: &Atom,
+    onto: &Atom,
+    found: &mut WholeMaps,
+) -> Result<(), AllocError>
+    requires small { EntriesAtMost 1 w.now }
+    requires isometry { IsIsometry one.now other.now w.now }
+    requires kind { other.now.kind ≡ one.now.kind }
+    ensures members { OnOk result ((o : Operation) → IsMember o found.new ↔ (IsMapOnto one.now other.now w.now (site_of from.now) (site_of onto.now) o ⊎ IsMember o found.old)) }
+{
+    let _one = one.count();
+    let _other = other.cell().count();
+    let shift = translation_onto(w, from.place, onto.place, one.n(), other.cell().n());
+    let same = map_of(w, &shift, Sign::Same);
+    add_map(one, other, &same, found)?;
+    let reversed = map_of(w, &shift, Sign::Reversed);
+    add_map(one, other, &reversed, found)?;
+    Ok(())
+}
+
+/// Puts the maps of this matrix into the list. Each carries this atom onto an atom of its name, so only the translation parts
+/// that do so are tried.
+fn add_by(
+    one: &Cell,
+    other: &Places,
+    w: &Mat3<Int>,
+    from: &Atom,
+    found: &mut WholeMaps,
+) -> Result<(), AllocError>
+    requires small { EntriesAtMost 1 w.now }
+    requires isometry { IsIsometry one.now other.now w.now }
+    requires kind { other.now.kind ≡ one.now.kind }
+    requires of_cell { IsMember (site_of from.now) one.now.sites }
+    ensures members { OnOk result ((o : Operation) → IsMember o found.new ↔ (IsMapBy one.now other.now w.now o ⊎ IsMember o found.old)) }
+{
+    let _one = one.count();
+    let cell = other.cell();
+    for i in 0..cell.count() {
+        let onto = cell.atom(i);
+        if have_one_name(one, from.species, cell, onto.species) {
+            add_onto(one, other, w, from, onto, found)?;
+        }
+    }
+    Ok(())
+}
+
+/// How many atoms of the cell are of this species.
+fn count_of(cell: &Cell, species: u16) -> usize {
+    let mut count = 0;
+    for i in 0..cell.count() {
+        if cell.atom(i).species == species {
+            count += 1;
+        }
+    }
+    count
+}
+
+/// The number of the first atom of a rarest species.
+fn rarest(cell: &Cell) -> usize
+    ensures { result < length cell.now.sites }
+{
+    let atoms = cell.count();
+    let mut least = count_of(cell, cell.atom(0).species);
+    let mut rarest = 0;
+    for i in 1..atoms {
+        let count = count_of(cell, cell.atom(i).species);
+        if count < least {
+            least = count;
+            rarest = i;
+        }
+    }
+    rarest
+}
+
+/// Puts the maps of the matrix of these columns into the list.
+fn add_of_columns(
+    one: &Cell,
+    other: &Places,
+    from: &Atom,
+    a: &Vec3<Int>,
+    b: &Vec3<Int>,
+    c: &Vec3<Int>,
+    found: &mut WholeMaps,
+) -> Result<(), AllocError>
+    requires kind { other.now.kind ≡ one.now.kind }
+    requires of_cell { IsMember (site_of from.now) one.now.sites }
+    requires a { CoordinatesAtMost 1 a.now }
+    requires b { CoordinatesAtMost 1 b.now }
+    requires c { CoordinatesAtMost 1 c.now }
+    ensures members { OnOk result ((o : Operation) → IsMember o found.new ↔ (IsMapBy one.now other.now (of_columns a.now b.now c.now) o ⊎ IsMember o found.old)) }
+{
+    let w = of_columns(a, b, c);
+    if is_isometry(one, other.cell(), &w) {
+        add_by(one, other, &w, from, found)?;
+    }
+    Ok(())
+}
+
+/// Puts the maps of matrices of these first two columns into the list.
+fn add_of_two(
+    one: &Cell,
+    other: &Places,
+    from: &Atom,
+    metrics: &Metrics,
+    a: &Vec3<Int>,
+    b: &Vec3<Int>,
+    found: &mut WholeMaps,
+) -> Result<(), AllocError>
+    requires kind { other.now.kind ≡ one.now.kind }
+    requires of_cell { IsMember (site_of from.now) one.now.sites }
+    requires metrics { AreMetricsOf one.now other.now metrics.now.one metrics.now.other }
+    requires a { CoordinatesAtMost 1 a.now }
+    requires b { CoordinatesAtMost 1 b.now }
+    ensures members { OnOk result ((o : Operation) → IsMember o found.new ↔ (IsMapOfTwo one.now other.now a.now b.now o ⊎ IsMember o found.old)) }
+{
+    for number in 0..CANDIDATES {
+        let c = candidate(number);
+        if is_third_column(metrics, a, b, &c) {
+            add_of_columns(one, other, from, a, b, &c, found)?;
+        }
+    }
+    Ok(())
+}
+
+/// Puts the maps of matrices of this first column into the list.
+fn add_of_one(
+    one: &Cell,
+    other: &Places,
+    from: &Atom,
+    metrics: &Metrics,
+    a: &Vec3<Int>,
+    found: &mut WholeMaps,
+) -> Result<(), AllocError>
+    requires kind { other.now.kind ≡ one.now.kind }
+    requires of_cell { IsMember (site_of from.now) one.now.sites }
+    requires metrics { AreMetricsOf one.now other.now metrics.now.one metrics.now.other }
+    requires a { CoordinatesAtMost 1 a.now }
+    ensures members { OnOk result ((o : Operation) → IsMember o found.new ↔ (IsMapOfOne one.now other.now a.now o ⊎ IsMember o found.old)) }
+{
+    for number in 0..CANDIDATES {
+        let b = candidate(number);
+        if is_second_column(metrics, a, &b) {
+            add_of_two(one, other, from, metrics, a, &b, found)?;
+        }
+    }
+    Ok(())
+}
+
+/// All maps of matrices of entries -1, 0 and 1, where the moments are of one kind.
+///
+/// A column is tried where its length and its products with the columns before it are those of the axes.
+fn all_of_kind(alloc: Global, one: &Cell, other: &Places) -> Result<WholeMaps, AllocError>
+    requires kind { other.now.kind ≡ one.now.kind }
+    ensures { IfOk result (λ list. (o : Operation) → IsMember o list ↔ IsMapOfColumns one.now other.now o) }
+{
+    let from = one.atom(rarest(one));
+    let metrics = metrics_of(one, other.cell());
+    let mut found = WholeMaps::new(alloc);
+    for number in 0..CANDIDATES {
+        let a = candidate(number);
+        if is_first_column(&metrics, &a) {
+            add_of_one(one, other, from, &metrics, &a, &mut found)?;
+        }
+    }
+    Ok(found)
+}
+
+/// All maps of matrices of entries -1, 0 and 1.
+///
+/// There is none where the moments are of two kinds, or where the cells have different numbers of atoms.
+pub(crate) fn all_small(alloc: Global, one: &Cell, other: &Places) -> Result<WholeMaps, AllocError>
+    ensures { IfOk result (λ list. (o : Operation) → IsMember o list ↔ IsSmallMap one.now other.now o) }
+{
+    let cell = other.cell();
+    let _one = one.count();
+    let _other = cell.count();
+    if one.kind() != cell.kind() || one.count() != cell.count() {
+        return Ok(WholeMaps::new(alloc));
+    }
+    all_of_kind(alloc, one, other)
+}
