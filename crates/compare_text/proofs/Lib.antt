@@ -1,0 +1,2 @@
+mod KnownValues
+mod Lines

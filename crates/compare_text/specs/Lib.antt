@@ -1,0 +1,2 @@
+pub mod ComparisonText
+pub mod Comparisons
