@@ -1,7 +1,5 @@
 -- The least common denominator of all places, by a greatest common divisor. All places are in units of 1/e with e = h n d; of
 -- these numerators and e the greatest common divisor is g, and e / g is the least common denominator.
---   full q p n              e
---   IsPlaceDivisor c q p g  g divides e and all numerators, and each factor that makes them multiples of k makes g one
 use Rattle.std.proofs.Common.{◌≡◌, ℕ, ◌≤◌, ℤ, pos, negsuc, neg_ℤ, ◌+ℤ◌, ◌*ℤ◌, ◌<ℤ◌, ◌≤ℤ◌, [], ◌∷◌, ◌++◌, refl, sym, ◌∙◌, ap, subst, arith}
 use Rattle.std.proofs.lemmas.Int.{ints}
 use Rattle.matrix3.specs.Matrices as formulas
@@ -19,27 +17,9 @@ use Rattle.basis_spec.proofs.Positive.{pos_of_mul}
 use Rattle.match_spec.specs.Points.{Point, point, IsPoint, IsWhole}
 use Rattle.match_spec.proofs.Wholes.{whole_is, whole_plus, whole_minus, whole_times}
 use Rattle.standard_cell.specs.Places.{IsPlaceOf, IsCommonDenominator, IsLeastDenominator}
-use Rattle.standard_cell.proofs.Links.{IsLink, source, link_moved, link_source, link_same, folded}
+use Rattle.standard_cell.specs.PlaceDivisors.{source, full, place_of, cells_of, IsPlaceDivisor}
+use Rattle.standard_cell.proofs.Links.{IsLink, link_moved, link_source, link_same, folded}
 use Rattle.standard_cell.proofs.Placed.{two_cells}
-
--- h n d
-abbrev pub full : Matrix → Point → ℤ → ℤ
-full q p n = determinant q *ℤ (n *ℤ p.denominator)
-
--- the numerators of the place of a position
-abbrev pub place_of : Structure → Matrix → Point → Triple → Triple
-place_of c q p y = source q p.numerators p.denominator (pos c.n) y
-
--- the translation between places that are z cells of the old basis apart
-abbrev pub cells_of : Structure → Matrix → Point → Triple → Triple
-cells_of c q p z = multiple (pos c.n *ℤ p.denominator) (image (adjugate q) z)
-
-pub record IsPlaceDivisor (c : Structure) (q : Matrix) (p : Point) (g : ℤ) : Type 0 where
-  pub positive : pos 0 <ℤ g
-  pub steps : (z : Triple) → IsWhole g (cells_of c q p z)
-  pub places : (a : Site) → IsMember a c.sites → IsWhole g (place_of c q p a.position)
-  pub greatest : (k f : ℤ) → pos 0 <ℤ k → ((m : ℤ) × (f *ℤ full q p (pos c.n) ≡ k *ℤ m)) → ((a : Site) → IsMember a c.sites → IsWhole k (multiple f (place_of c q p a.position))) →
-      ((z : Triple) → IsWhole k (multiple f (cells_of c q p z))) → (m : ℤ) × (f *ℤ g ≡ k *ℤ m)
 
 module _ (c : Structure) (q : Matrix) (p : Point) (above : pos 0 <ℤ determinant q) (some : pos 0 <ℤ pos c.n) (is_p : IsPoint p) (first : Site) (of_first : IsMember first c.sites) where
   abbrev e : ℤ
@@ -90,7 +70,7 @@ module _ (c : Structure) (q : Matrix) (p : Point) (above : pos 0 <ℤ determinan
   itself : (n : ℤ) (x : Triple) → x ≡ sum_of x (multiple n (record { x = pos 0; y = pos 0; z = pos 0 }))
   itself n x = by_triples (n ∷ coordinates x) (vector_of_variables 1) (formulas.sum_of quoted (vector_of_variables 1) (formulas.multiple quoted (var 0) (record { x = con (pos 0); y = con (pos 0); z = con (pos 0) }))) refl
 
-  module _ (g : ℤ) (h : IsPlaceDivisor c q p g) (n : ℕ) (n_is : e ≡ g *ℤ pos n) where
+  module _ (g : ℤ) (h : IsPlaceDivisor c q p c.sites g) (n : ℕ) (n_is : e ≡ g *ℤ pos n) where
     n_above : pos 0 <ℤ pos n
     n_above = pos_of_mul g (pos n) h.positive (subst (λ (z : ℤ). pos 0 <ℤ z) n_is e_above)
 

@@ -3,8 +3,9 @@
 --   ExistsLaw             each crystal has a standard cell in each basis and with each origin
 --   IsUniqueLaw           there is no other standard cell
 --   HasCountLaw           it has det(Q) times as many atoms
+--   CanTakeLaw            a standard cell can be asked for with each first map of a symbol's group
 --   HasGroupLaw           with the first map of a symbol's group its operations are exactly those of the group
-use Rattle.std.specs.Prelude.{◌≡◌, pos, ◌<ℤ◌, ◌*ℤ◌, List, length}
+use Rattle.std.specs.Prelude.{◌≡◌, ℕ, pos, ◌<ℤ◌, ◌*ℤ◌, List, length}
 use Rattle.crystal_spec.specs.Matrices.{Matrix, determinant}
 use Rattle.crystal_spec.specs.Crystals.{Structure}
 use Rattle.crystal_spec.specs.Operations.{Operation, ListsAll}
@@ -13,6 +14,7 @@ use Rattle.basis_spec.specs.Translations.{IsPrimitive}
 use Rattle.op_group.specs.Groups.{IsGroupModulo}
 use Rattle.match_spec.specs.Points.{Point, IsPoint}
 use Rattle.match_spec.specs.FirstMap.{IsFirstMap}
+use Rattle.standard_cell.specs.Conditions.{CanTake}
 use Rattle.standard_cell.specs.StandardCells.{IsStandard}
 use Rattle.standard_cell.specs.Crystals.{SameAt}
 use Rattle.standard_cell.specs.Groups.{AreSameOperations}
@@ -40,3 +42,7 @@ HasCountLaw =
 abbrev pub HasGroupLaw : Type 0
 HasGroupLaw =
     (c s : Structure) (class turn : Matrix) (p : Point) (h ms os : List Operation) → IsCell c → IsPrimitive c → ListsAll c ms → IsGroupModulo 12 h → IsFirstMap h c.n ms class turn p → IsStandard c turn p s → ListsAll s os → AreSameOperations s.n os h
+
+-- h is a group with translation parts in units of 1/12, and the map is the first that carries it onto ms, in units of 1/n
+abbrev pub CanTakeLaw : Type 0
+CanTakeLaw = (h ms : List Operation) (n : ℕ) (class turn : Matrix) (p : Point) → IsGroupModulo 12 h → IsFirstMap h n ms class turn p → CanTake turn p

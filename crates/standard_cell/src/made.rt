@@ -1,0 +1,84 @@
+// A cell made of names and atoms.
+
+ghost use Rattle.std.specs.Prelude.{◌≡◌, ◌^◌, ◌≤◌, pos, ◌≤ℤ◌, length, map, slice_get, Some, take, unsigned_abs, IfOk, OnOk};
+ghost use Rattle.crystal_spec.specs.Increasing.{IsDistinct};
+ghost use Rattle.crystal_spec.specs.Crystals.{Site, IsPositive};
+ghost use Rattle.crystal.specs.Views.{metric_of, site_of};
+ghost use Rattle.crystal.specs.Bounds.{EntriesAtMost};
+ghost use Rattle.crystal.specs.Cells.{AreSitesOf, AreApart};
+
+use crate::integers::natural;
+use crate::limits::Units;
+use crystal::{Atom, Cell};
+use std::alloc::{AllocError, Global};
+
+/// Adds the names of a cell, of which the first is there.
+///
+/// Refuses for want of memory alone.
+fn add_names(made: &mut Cell, cell: &Cell) -> Result<(), AllocError>
+    requires first { made.old.names ≡ take 1 cell.now.names }
+    requires differ { IsDistinct cell.now.names }
+    requires few { length cell.now.names ≤ 512 }
+    ensures { OnOk result (made.new ≡ record made.old { names = cell.now.names }) }
+{
+    for species in 1..cell.names() {
+        made.add_name(cell.name(species as u16).copied())?;
+    }
+    Ok(())
+}
+
+/// Adds atoms, of which the first is there.
+///
+/// Refuses for want of memory alone.
+fn add_atoms(made: &mut Cell, atoms: &[Atom]) -> Result<(), AllocError>
+    requires first { made.old.sites ≡ take 1 (map site_of atoms.now) }
+    requires sites { AreSitesOf (length made.old.names) made.old.n made.old.kind (map site_of atoms.now) }
+    requires apart { AreApart (map site_of atoms.now) }
+    requires few { length (map site_of atoms.now) ≤ 512 }
+    ensures { OnOk result (made.new ≡ record made.old { sites = map site_of atoms.now }) }
+{
+    for i in 1..atoms.len() {
+        made.add(atoms[i])?;
+    }
+    Ok(())
+}
+
+/// A cell of these atoms in these units, with the names, the scale and the kind of moments of another.
+///
+/// Refuses for want of memory alone.
+pub(crate) fn cell_of(
+    alloc: Global,
+    cell: &Cell,
+    units: &Units,
+    atoms: &[Atom],
+) -> Result<Cell, AllocError>
+    requires n_at_least { pos 1 ≤ℤ units.now.n }
+    requires n_at_most { units.now.n ≤ℤ pos (10 ^ 6) }
+    requires k_at_least { 1 ≤ units.now.k }
+    requires k_at_most { units.now.k ≤ 10 ^ 6 }
+    requires positive { IsPositive (metric_of units.now.metric) }
+    requires entries { EntriesAtMost (10 ^ 16) (metric_of units.now.metric) }
+    requires some { 1 ≤ length (map site_of atoms.now) }
+    requires few { length (map site_of atoms.now) ≤ 512 }
+    requires first { (site : Site) → slice_get (map site_of atoms.now) 0 ≡ Some site → site.species ≡ 0 }
+    requires sites { AreSitesOf (length cell.now.names) (unsigned_abs units.now.n) cell.now.kind (map site_of atoms.now) }
+    requires apart { AreApart (map site_of atoms.now) }
+    ensures { IfOk result (λ made. made ≡ record { names = cell.now.names; scale = cell.now.scale; metric = metric_of units.now.metric; n = unsigned_abs units.now.n; k = units.now.k; kind = cell.now.kind; sites = map site_of atoms.now }) }
+{
+    let _form = cell.count();
+    let n = natural(units.n);
+    let name = cell.name(0).copied();
+    let mut made = Cell::build(
+        alloc,
+        cell.scale(),
+        units.metric,
+        n,
+        units.k,
+        cell.kind(),
+        name,
+        atoms[0],
+    )?;
+    add_names(&mut made, cell)?;
+    add_atoms(&mut made, atoms)?;
+    Ok(made)
+}
