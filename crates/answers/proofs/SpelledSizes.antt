@@ -12,7 +12,7 @@ use Rattle.crystal.specs.Bounds.{EntriesAtMost, CoordinatesAtMost}
 use Rattle.plain_text.specs.Text.{lines}
 use Rattle.numbers.specs.Fraction.{Fraction}
 use Rattle.plain_text.specs.NumberWords.{common_denominator, scaled}
-use Rattle.cell_text.specs.Lines.{Entry, skipped, metric_entry, atom_entry, end_entry, other_entry}
+use Rattle.cell_text.specs.Lines.{Entry, skipped, metric_entry, atom_entry, end_entry, kind_entry, other_entry}
 use Rattle.cell_text.specs.Entries.{AtomLine, ScaledMetric, Contents, values, number_at, metric_of, with_entry, state_after, contents, moments, is_billion, is_metric_in_range, are_moments_in_range}
 use Rattle.cell_text.specs.Rules.{entry_fault, cell_fault}
 use Rattle.cell_text.specs.CellFile.{Spells, cell_with, names_of, site_of, no_metric}
@@ -58,6 +58,7 @@ later_small held (metric_entry ws) n e small = record {
 }
 later_small held (atom_entry name ws) n e small = record { metrics = small.metrics; moments = moments_fit held name ws e }
 later_small held end_entry n e small = record { metrics = small.metrics; moments = small.moments }
+later_small held (kind_entry kind) n e small = record { metrics = small.metrics; moments = small.moments }
 later_small held other_entry n e small = absurd cc
 
 -- ---- all lines

@@ -1,29 +1,31 @@
 -- No line of a printed cell breaks a rule, and the lines hold the cell.
 use Rattle.std.proofs.Common.{◌≡◌, ℕ, ◌+◌, ◌^◌, ◌<◌, ◌≤◌, Bool, true, false, List, [], ◌∷◌, ◌++◌, length, map, Option, Some, None, refl, sym, ap, ◌∙◌, arith, append-nil, append_assoc, length-append}
-use Rattle.std.specs.Prelude.{ℤ, unsigned_abs, ◌&&◌, not, nat_le}
+use Rattle.std.specs.Prelude.{ℤ, unsigned_abs, ◌&&◌, not, nat_le, codes}
 use Rattle.std.specs.List.{list_all}
 use Rattle.std.proofs.lemmas.Bool.{le-leb, lt-leb, and_from, ne_eqb}
 use Rattle.std.proofs.lemmas.List.{map-append, length-map}
 use Rattle.std.proofs.lemmas.Nat.Gcd.{le_of_dvd}
+use Rattle.crystal_spec.specs.declared.MomentKind.{MomentKind}
 use Rattle.crystal_spec.specs.Crystals.{Site, Structure}
 use Rattle.crystal_spec.specs.Operations.{IsWithinCell}
 use Rattle.cell_text.specs.declared.fault.CellFault.{CellFault}
-use Rattle.cell_text.specs.declared.fault.CellFault.TheVariants.{TooManyAtoms, PositionRange, MomentRange, MetricTwice, MetricRange, NotPositive, BadByte, AfterEnd}
-use Rattle.cell_text.specs.declared.version.Version.TheVariants.{One}
+use Rattle.cell_text.specs.declared.fault.CellFault.TheVariants.{BadLine, TooManyAtoms, PositionRange, MomentRange, MetricTwice, MetricRange, NotPositive, BadByte, AfterEnd}
+use Rattle.cell_text.specs.declared.version.Version.{Version}
 use Rattle.numbers.specs.Fraction.{Fraction}
 use Rattle.plain_text.specs.NumberWords.{scaled, common_denominator}
 use Rattle.plain_text.specs.FirstFaults.{first_of, when}
 use Rattle.plain_text.specs.Text.{has_bad_byte}
-use Rattle.cell_text.specs.Lines.{end_word, version_of, Entry, end_entry, entry_of}
+use Rattle.cell_text.specs.Lines.{end_word, Entry, end_entry, entry_of}
 use Rattle.cell_text.specs.Entries.{AtomLine, ScaledMetric, Contents, State, state_with, with_metric, with_atom, with_entry, with_line, state_after, contents, positions, moments, is_billion, are_positions_in_range, are_moments_in_range}
-use Rattle.cell_text.specs.Rules.{same_place, same_place_from, heading_fault, metric_fault, place_fault, atom_fault, end_fault, later_fault, judged, fault_after, fault_at_end, first_fault}
+use Rattle.cell_text.specs.Rules.{same_place, same_place_from, metric_fault, place_fault, are_numbers_of, atom_fault, end_fault, later_fault, judged, fault_after, fault_at_end, first_fault}
 use Rattle.cell_text.proofs.Judging.{state_after-more}
 use Rattle.cell_print.specs.Printable.{all_positions, all_moments, AreAtMost}
 use Rattle.plain_text.proofs.NumberWords.{reduced}
 use Rattle.cell_print.proofs.TextCuts.{line-no_bad_byte}
 use Rattle.cell_print.proofs.CommonDenominators.{common_denominator-divides, scaled-smaller}
-use Rattle.cell_print.proofs.PrintedLines.{heading_line, metric_line, atom_line, atom_lines, name_of, IsPlain, atom_line-bytes, metric_line-bytes}
-use Rattle.cell_print.proofs.ReadLines.{metric_held, metric_words, atom_words, IsPlainMetric, metric_line-read, metric_line-in_range, metric_line-positive, metric_line-is, metric_line-no_fault, entry, HasUnits, atom_line-read, atom_line-no_fault, atom_line-is}
+use Rattle.cell_print.proofs.FirstLines.{kind_as, heading_line, kind_lines, first_lines, version_of_kind, kinds_told, first_held, kind-told, first_lines-held, heading-none, plain_vectors-none, axial_scalars-none, plain_scalars-none}
+use Rattle.cell_print.proofs.PrintedLines.{metric_line, atom_line, atom_lines, name_of, IsPlain, atom_line-bytes, metric_line-bytes}
+use Rattle.cell_print.proofs.ReadLines.{metric_held, metric_words, atom_words, IsPlainMetric, metric_line-read, metric_line-in_range, metric_line-positive, metric_line-is, metric_line-no_fault, entry, HasUnits, atom_line-read, atom_line-no_fault, atom_line-count, atom_line-is}
 use Rattle.cell_print.proofs.PlacesApart.{entries-apart}
 
 -- ---- ranges
@@ -79,11 +81,11 @@ place-none c sites s some within away = places-apart c 1 _ sites s some within a
 
 -- The contents behind the metric line and some atom lines.
 abbrev pub held_with : Structure → List Site → Contents
-held_with c sites = record { metrics = metric_held c ∷ []; atoms = map (entry c) sites; ended = false }
+held_with c sites = record { kinds = kinds_told c.kind; metrics = metric_held c ∷ []; atoms = map (entry c) sites; ended = false }
 
 -- What is known there.
 abbrev pub behind : Structure → List Site → State
-behind c sites = state_with (Some One) (held_with c sites)
+behind c sites = state_with (Some (version_of_kind c.kind)) (held_with c sites)
 
 -- an atom that can follow these
 pub record CanFollow (c : Structure) (sites : List Site) (s : Site) : Type 0 where
@@ -105,8 +107,8 @@ place_fault-none c sites s units h =
     (ap are_moments_in_range more ∙ moments-range c (sites ++ s ∷ []) units h.moments)
     (place-none c sites s units.some_n h.within h.away)
 
-three_none : (a : Bool) (f g : Option CellFault) → a ≡ false → f ≡ None → g ≡ None → first_of (when a TooManyAtoms ∷ f ∷ g ∷ []) ≡ None
-three_none a f g ea ef eg = rw (ea, ef, eg) refl
+rules_none : (b a : Bool) (f g : Option CellFault) → b ≡ true → a ≡ false → f ≡ None → g ≡ None → first_of (when (not b) BadLine ∷ when a TooManyAtoms ∷ f ∷ g ∷ []) ≡ None
+rules_none b a f g eb ea ef eg = rw (eb, ea, ef, eg) refl
 
 not_many : (n : ℕ) → n < 512 → nat_le 512 n ≡ false
 not_many n h = lt-leb 512 n h
@@ -114,7 +116,8 @@ not_many n h = lt-leb 512 n h
 atom_line-none : (c : Structure) (sites : List Site) (s : Site) → HasUnits c → CanFollow c sites s → atom_fault (held_with c sites) (name_of c s) (atom_words c s) ≡ None
 unfolding atom_fault
 atom_line-none c sites s units h =
-    three_none _ _ _
+    rules_none _ _ _ _
+    (ap (λ (kind : MomentKind). are_numbers_of kind (length (atom_words c s))) (kind-told c.kind) ∙ atom_line-count c s)
     (ap (λ (n : ℕ). nat_le 512 n) (length-map sites (entry c)) ∙ not_many (length sites) h.fewer)
     (atom_line-no_fault c s units h.plain)
     (ap (place_fault (held_with c sites)) (atom_line-read c s units h.plain) ∙ place_fault-none c sites s units h)
@@ -129,53 +132,42 @@ atom-fault : (c : Structure) (before : List (List ℕ)) (sites : List Site) (s :
 unfolding later_fault
 atom-fault c before sites s units h held =
     ap (λ (so_far : State). judged so_far (atom_line c s)) held
-    ∙ ap (later_fault (held_with c sites) (atom_line c s)) (atom_line-is c s units h.plain)
+    ∙ ap (later_fault (held_with c sites) (atom_line c s)) (atom_line-is (version_of_kind c.kind) c s units h.plain)
     ∙ passed (has_bad_byte (atom_line c s)) (atom_fault (held_with c sites) (name_of c s) (atom_words c s)) (line-no_bad_byte (atom_line c s) (atom_line-bytes c s (sizes_known c units).0 (sizes_known c units).1 h.plain)) (atom_line-none c sites s units h)
 
 atom-held : (c : Structure) (before : List (List ℕ)) (sites : List Site) (s : Site) → HasUnits c → IsPlain c s → state_after before ≡ behind c sites → state_after (before ++ atom_line c s ∷ []) ≡ behind c (sites ++ s ∷ [])
 atom-held c before sites s units plain held =
     state_after-more before (atom_line c s)
     ∙ ap (λ (so_far : State). with_line so_far (atom_line c s)) held
-    ∙ ap (λ (e : Entry). state_with (Some One) (with_entry (held_with c sites) e)) (atom_line-is c s units plain)
-    ∙ ap (λ (a : AtomLine). state_with (Some One) (with_atom (held_with c sites) a)) (atom_line-read c s units plain)
+    ∙ ap (λ (e : Entry). state_with (Some (version_of_kind c.kind)) (with_entry (held_with c sites) e)) (atom_line-is (version_of_kind c.kind) c s units plain)
+    ∙ ap (λ (a : AtomLine). state_with (Some (version_of_kind c.kind)) (with_atom (held_with c sites) a)) (atom_line-read c s units plain)
     ∙ ap with_atoms (sym (map-append (entry c) sites (s ∷ [])))
   where
     with_atoms : List AtomLine → State
-    with_atoms atoms = state_with (Some One) (record { metrics = metric_held c ∷ []; atoms = atoms; ended = false })
+    with_atoms atoms = state_with (Some (version_of_kind c.kind)) (record { kinds = kinds_told c.kind; metrics = metric_held c ∷ []; atoms = atoms; ended = false })
 
 -- ---- the metric line
-
-abbrev none_held : Contents
-none_held = record { metrics = []; atoms = []; ended = false }
 
 four_none : (a b d : Bool) (f : Option CellFault) → a ≡ true → f ≡ None → b ≡ true → d ≡ true → first_of (when (not a) MetricTwice ∷ f ∷ when (not b) MetricRange ∷ when (not d) NotPositive ∷ []) ≡ None
 four_none a b d f ea ef eb ed = rw (ea, ef, eb, ed) refl
 
-metric_line-none : (c : Structure) → IsPlainMetric c → metric_fault none_held (metric_words c) ≡ None
+metric_line-none : (c : Structure) → IsPlainMetric c → metric_fault (first_held c.kind) (metric_words c) ≡ None
 unfolding metric_fault
 metric_line-none c h = four_none true _ _ _ refl (metric_line-no_fault c h) (metric_line-in_range c h) (metric_line-positive c h)
 
-heading-held : state_after (heading_line ∷ []) ≡ state_with (Some One) none_held
-unfolding state_after version_of
-heading-held = refl
-
-heading-none : fault_after [] heading_line ≡ None
-unfolding state_after heading_fault has_bad_byte version_of
-heading-none = refl
-
-metric-fault : (c : Structure) → IsPlainMetric c → fault_after (heading_line ∷ []) (metric_line c) ≡ None
+metric-fault : (c : Structure) → IsPlainMetric c → fault_after (first_lines c.kind) (metric_line c) ≡ None
 unfolding later_fault
 metric-fault c h =
-    ap (λ (so_far : State). judged so_far (metric_line c)) heading-held
-    ∙ ap (later_fault none_held (metric_line c)) (metric_line-is c h)
-    ∙ passed (has_bad_byte (metric_line c)) (metric_fault none_held (metric_words c)) (line-no_bad_byte (metric_line c) (metric_line-bytes c (omega (arith, h.small_scale)) h.small)) (metric_line-none c h)
+    ap (λ (so_far : State). judged so_far (metric_line c)) (first_lines-held c.kind)
+    ∙ ap (later_fault (first_held c.kind) (metric_line c)) (metric_line-is (version_of_kind c.kind) c h)
+    ∙ passed (has_bad_byte (metric_line c)) (metric_fault (first_held c.kind) (metric_words c)) (line-no_bad_byte (metric_line c) (metric_line-bytes c (omega (arith, h.small_scale)) h.small)) (metric_line-none c h)
 
-metric-held : (c : Structure) → IsPlainMetric c → state_after (heading_line ∷ metric_line c ∷ []) ≡ behind c []
+metric-held : (c : Structure) → IsPlainMetric c → state_after (first_lines c.kind ++ metric_line c ∷ []) ≡ behind c []
 metric-held c h =
-    state_after-more (heading_line ∷ []) (metric_line c)
-    ∙ ap (λ (so_far : State). with_line so_far (metric_line c)) heading-held
-    ∙ ap (λ (e : Entry). state_with (Some One) (with_entry none_held e)) (metric_line-is c h)
-    ∙ ap (λ (m : ScaledMetric). state_with (Some One) (with_metric none_held m)) (metric_line-read c h)
+    state_after-more (first_lines c.kind) (metric_line c)
+    ∙ ap (λ (so_far : State). with_line so_far (metric_line c)) (first_lines-held c.kind)
+    ∙ ap (λ (e : Entry). state_with (Some (version_of_kind c.kind)) (with_entry (first_held c.kind) e)) (metric_line-is (version_of_kind c.kind) c h)
+    ∙ ap (λ (m : ScaledMetric). state_with (Some (version_of_kind c.kind)) (with_metric (first_held c.kind) m)) (metric_line-read c h)
 
 -- ---- the end
 
@@ -183,9 +175,9 @@ end-no_bad_byte : has_bad_byte end_word ≡ false
 unfolding has_bad_byte
 end-no_bad_byte = refl
 
-end-is : entry_of One end_word ≡ end_entry
+end-is : (version : Version) → entry_of version end_word ≡ end_entry
 unfolding entry_of
-end-is = refl
+end-is version = refl
 
 end-none : (c : Structure) (sites : List Site) → 0 < length sites → end_fault (held_with c sites) ≡ None
 unfolding end_fault
@@ -196,18 +188,18 @@ end-fault : (c : Structure) (before : List (List ℕ)) (sites : List Site) → 0
 unfolding later_fault
 end-fault c before sites filled held =
     ap (λ (so_far : State). judged so_far end_word) held
-    ∙ ap (later_fault (held_with c sites) end_word) end-is
+    ∙ ap (later_fault (held_with c sites) end_word) (end-is (version_of_kind c.kind))
     ∙ passed (has_bad_byte end_word) (end_fault (held_with c sites)) end-no_bad_byte (end-none c sites filled)
 
 -- the contents of the whole text
 abbrev pub whole : Structure → Contents
-whole c = record { metrics = metric_held c ∷ []; atoms = map (entry c) c.sites; ended = true }
+whole c = record { kinds = kinds_told c.kind; metrics = metric_held c ∷ []; atoms = map (entry c) c.sites; ended = true }
 
-end-held : (c : Structure) (before : List (List ℕ)) → state_after before ≡ behind c c.sites → state_after (before ++ end_word ∷ []) ≡ state_with (Some One) (whole c)
+end-held : (c : Structure) (before : List (List ℕ)) → state_after before ≡ behind c c.sites → state_after (before ++ end_word ∷ []) ≡ state_with (Some (version_of_kind c.kind)) (whole c)
 end-held c before held =
     state_after-more before end_word
     ∙ ap (λ (so_far : State). with_line so_far end_word) held
-    ∙ ap (λ (e : Entry). state_with (Some One) (with_entry (held_with c c.sites) e)) end-is
+    ∙ ap (λ (e : Entry). state_with (Some (version_of_kind c.kind)) (with_entry (held_with c c.sites) e)) (end-is (version_of_kind c.kind))
 
 ended_text : (ls : List (List ℕ)) → 0 < length ls → (contents ls).ended ≡ true → fault_at_end ls ≡ None
 ended_text [] h e = absurd (omega arith)
@@ -246,7 +238,16 @@ atoms-read c before sites (s ∷ later) units filled held all h =
     line_more c before (atom_line c s) (atom_lines c later ++ end_word ∷ []) (atom-fault c before sites s units h.0 held)
     (atoms-read c (before ++ atom_line c s ∷ []) (sites ++ s ∷ []) later units filled (atom-held c before sites s units h.0.plain held) (append_assoc sites (s ∷ []) later ∙ all) h.1)
 
+-- The kind line, where there is one, breaks no rule behind the first line.
+kind-read : (c : Structure) (vector axial : Bool) (later : List (List ℕ)) → AreRead c (first_lines (kind_as vector axial)) later → AreRead c (heading_line (kind_as vector axial) ∷ []) (kind_lines (kind_as vector axial) ++ later)
+kind-read c true true later h = h
+kind-read c true false later h = line_more c (codes "magcell 2" ∷ []) (codes "kind vector plain") later plain_vectors-none h
+kind-read c false true later h = line_more c (codes "magcell 2" ∷ []) (codes "kind scalar axial") later axial_scalars-none h
+kind-read c false false later h = line_more c (codes "magcell 2" ∷ []) (codes "kind scalar plain") later plain_scalars-none h
+
 -- The lines of a printed cell break no rule and hold the cell.
-pub lines-read : (c : Structure) → IsPlainMetric c → HasUnits c → 0 < length c.sites → CanFollowAll c [] c.sites → AreRead c [] (heading_line ∷ metric_line c ∷ (atom_lines c c.sites ++ end_word ∷ []))
+pub lines-read : (c : Structure) → IsPlainMetric c → HasUnits c → 0 < length c.sites → CanFollowAll c [] c.sites → AreRead c [] (heading_line c.kind ∷ (kind_lines c.kind ++ metric_line c ∷ (atom_lines c c.sites ++ end_word ∷ [])))
 lines-read c metric units filled h =
-    line_more c [] heading_line _ heading-none (line_more c (heading_line ∷ []) (metric_line c) _ (metric-fault c metric) (atoms-read c (heading_line ∷ metric_line c ∷ []) [] c.sites units filled (metric-held c metric) refl h))
+    let atoms = atoms-read c (first_lines c.kind ++ metric_line c ∷ []) [] c.sites units filled (metric-held c metric) refl h in
+    let later = line_more c (first_lines c.kind) (metric_line c) (atom_lines c c.sites ++ end_word ∷ []) (metric-fault c metric) atoms in
+    line_more c [] (heading_line c.kind) _ (heading-none c.kind) (kind-read c c.kind.vector c.kind.axial _ later)

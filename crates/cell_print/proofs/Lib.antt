@@ -4,6 +4,7 @@ pub mod CommonDenominators
 pub mod LeastUnits
 pub mod SpelledPrintable
 pub mod NamesRead
+pub mod FirstLines
 pub mod PrintedLines
 pub mod ReadLines
 pub mod PlacesApart

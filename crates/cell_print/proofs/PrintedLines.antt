@@ -6,14 +6,17 @@ use Rattle.std.specs.Char.{is_ascii_alphabetic, is_ascii_digit}
 use Rattle.std.proofs.lemmas.Bool.{le-leb, leb-true, eqb-true, and_parts, and_from, or_cases}
 use Rattle.std.proofs.Common.{inl, inr}
 use Rattle.std.proofs.lemmas.List.Folds.{list_all-append}
+use Rattle.crystal_spec.specs.declared.MomentKind.{MomentKind}
 use Rattle.crystal_spec.specs.Matrices.{Triple}
+use Rattle.crystal_spec.specs.Moments.{IsOfKind}
 use Rattle.crystal_spec.specs.Crystals.{Site, Structure}
 use Rattle.crystal.specs.Names.{is_name, is_name_byte, are_name_bytes}
 use Rattle.plain_text.specs.Text.{lines, words}
 use Rattle.cell_text.specs.Lines.{metric_word, atom_word, end_word}
 use Rattle.plain_text.specs.NumberText.{numbers_text}
-use Rattle.cell_print.specs.CellFileText.{scalar_products, coordinates, position_text, is_nothing, moment_text, atom_text, atoms_text, cell_file_text}
+use Rattle.cell_print.specs.CellFileText.{scalar_products, coordinates, position_text, is_nothing, moment_numbers, moment_text, atom_text, atoms_text, metric_and_atoms_text, cell_file_text}
 use Rattle.plain_text.proofs.NumberWords.{is_word_byte, IsWord}
+use Rattle.cell_print.proofs.FirstLines.{heading_line, kind_lines, first_lines-cut}
 use Rattle.cell_print.proofs.TextCuts.{AreSmall, Follows, follows_end, follows_numbers, number_texts, is_line_byte, lines_line, word-line_bytes, numbers-line_bytes, words_cut}
 
 -- ---- names
@@ -58,10 +61,6 @@ name-is_word (b ∷ w) e =
 
 -- ---- the lines
 
--- `magcell 1`
-abbrev pub heading_line : List ℕ
-heading_line = 109 ∷ 97 ∷ 103 ∷ 99 ∷ 101 ∷ 108 ∷ 108 ∷ 32 ∷ 49 ∷ []
-
 -- the metric line, without its LF
 abbrev pub metric_line : Structure → List ℕ
 metric_line c = metric_word ++ numbers_text (unsigned_abs c.scale) (scalar_products c.metric)
@@ -72,13 +71,14 @@ name_of c s = get_or c.names s.species []
 
 -- the line of an atom, without its LF
 abbrev pub atom_line : Structure → Site → List ℕ
-atom_line c s = atom_word ++ 32 ∷ (name_of c s ++ (position_text c.n s.position ++ moment_text c.k s.moment))
+atom_line c s = atom_word ++ 32 ∷ (name_of c s ++ (position_text c.n s.position ++ moment_text c.kind c.k s.moment))
 
--- What is known of an atom: its name, and the sizes of its numbers.
+-- What is known of an atom: its name, the sizes of its numbers, and that its moment is of the kind of the cell.
 pub record IsPlain (c : Structure) (s : Site) : Type 0 where
   pub name : is_name (name_of c s) ≡ true
   pub position : AreSmall (coordinates s.position)
   pub moment : AreSmall (coordinates s.moment)
+  pub of_kind : IsOfKind c.kind s.moment
 
 -- this is known of each atom
 abbrev pub ArePlain : Structure → List Site → Type 0
@@ -86,26 +86,34 @@ ArePlain c [] = Unit {0}
 ArePlain c (s ∷ sites) = IsPlain c s × ArePlain c sites
 
 -- the words of a moment
-abbrev pub moment_words : ℕ → Triple → List (List ℕ)
-moment_words k m = if is_nothing m then [] else number_texts k (coordinates m)
+abbrev pub moment_words : MomentKind → ℕ → Triple → List (List ℕ)
+moment_words kind k m = if is_nothing m then [] else number_texts k (moment_numbers kind m)
+
+-- The numbers of a moment are as small as its components.
+pub moment_numbers-small : (kind : MomentKind) (m : Triple) → AreSmall (coordinates m) → AreSmall (moment_numbers kind m)
+moment_numbers-small kind m small = by kind.vector
+  where
+    by : (vector : Bool) → AreSmall (if vector then coordinates m else m.x ∷ [])
+    by true = small
+    by false = (small.0, tt)
 
 -- printed numbers at the end of a line
 follows_last : (d : ℕ) (zs : List ℤ) → d < 10 ^ 18 → AreSmall zs → Follows (numbers_text d zs) (number_texts d zs)
 follows_last d zs h small =
     subst (λ (text : List ℕ). Follows text (number_texts d zs)) (append-nil (numbers_text d zs)) (subst (λ (ws : List (List ℕ)). Follows (numbers_text d zs ++ []) ws) (append-nil (number_texts d zs)) (follows_numbers d zs [] [] h small follows_end))
 
-follows_moment : (k : ℕ) (m : Triple) → k < 10 ^ 18 → AreSmall (coordinates m) → Follows (moment_text k m) (moment_words k m)
-follows_moment k m h small = by (is_nothing m)
+follows_moment : (kind : MomentKind) (k : ℕ) (m : Triple) → k < 10 ^ 18 → AreSmall (coordinates m) → Follows (moment_text kind k m) (moment_words kind k m)
+follows_moment kind k m h small = by (is_nothing m)
   where
-    by : (b : Bool) → Follows (if b then [] else numbers_text k (coordinates m)) (if b then [] else number_texts k (coordinates m))
+    by : (b : Bool) → Follows (if b then [] else numbers_text k (moment_numbers kind m)) (if b then [] else number_texts k (moment_numbers kind m))
     by true = follows_end
-    by false = follows_last k (coordinates m) h small
+    by false = follows_last k (moment_numbers kind m) h (moment_numbers-small kind m small)
 
 -- The words of an atom line.
-pub atom_line-words : (c : Structure) (s : Site) → c.n < 10 ^ 18 → c.k < 10 ^ 18 → IsPlain c s → words (atom_line c s) ≡ atom_word ∷ name_of c s ∷ (number_texts c.n (coordinates s.position) ++ moment_words c.k s.moment)
+pub atom_line-words : (c : Structure) (s : Site) → c.n < 10 ^ 18 → c.k < 10 ^ 18 → IsPlain c s → words (atom_line c s) ≡ atom_word ∷ name_of c s ∷ (number_texts c.n (coordinates s.position) ++ moment_words c.kind c.k s.moment)
 atom_line-words c s hn hk plain =
-    words_cut atom_word (name_of c s ++ (position_text c.n s.position ++ moment_text c.k s.moment)) (omega arith) refl
-    ∙ ap (λ (ws : List (List ℕ)). atom_word ∷ ws) (follows_numbers c.n (coordinates s.position) (moment_text c.k s.moment) (moment_words c.k s.moment) hn plain.position (follows_moment c.k s.moment hk plain.moment) (name_of c s) (name-is_word (name_of c s) plain.name))
+    words_cut atom_word (name_of c s ++ (position_text c.n s.position ++ moment_text c.kind c.k s.moment)) (omega arith) refl
+    ∙ ap (λ (ws : List (List ℕ)). atom_word ∷ ws) (follows_numbers c.n (coordinates s.position) (moment_text c.kind c.k s.moment) (moment_words c.kind c.k s.moment) hn plain.position (follows_moment c.kind c.k s.moment hk plain.moment) (name_of c s) (name-is_word (name_of c s) plain.name))
 
 -- The words of the metric line.
 pub metric_line-words : (c : Structure) → unsigned_abs c.scale < 10 ^ 18 → AreSmall (scalar_products c.metric) → words (metric_line c) ≡ metric_word ∷ number_texts (unsigned_abs c.scale) (scalar_products c.metric)
@@ -113,19 +121,19 @@ metric_line-words c h small = follows_last (unsigned_abs c.scale) (scalar_produc
 
 -- ---- their bytes
 
-moment-bytes : (k : ℕ) (m : Triple) → k < 10 ^ 18 → AreSmall (coordinates m) → list_all is_line_byte (moment_text k m) ≡ true
-moment-bytes k m h small = by (is_nothing m)
+moment-bytes : (kind : MomentKind) (k : ℕ) (m : Triple) → k < 10 ^ 18 → AreSmall (coordinates m) → list_all is_line_byte (moment_text kind k m) ≡ true
+moment-bytes kind k m h small = by (is_nothing m)
   where
-    by : (b : Bool) → list_all is_line_byte (if b then [] else numbers_text k (coordinates m)) ≡ true
+    by : (b : Bool) → list_all is_line_byte (if b then [] else numbers_text k (moment_numbers kind m)) ≡ true
     by true = refl
-    by false = numbers-line_bytes k (coordinates m) h small
+    by false = numbers-line_bytes k (moment_numbers kind m) h (moment_numbers-small kind m small)
 
 -- The bytes of an atom line can stand in a line.
 pub atom_line-bytes : (c : Structure) (s : Site) → c.n < 10 ^ 18 → c.k < 10 ^ 18 → IsPlain c s → list_all is_line_byte (atom_line c s) ≡ true
 atom_line-bytes c s hn hk plain =
-    list_all-append is_line_byte (name_of c s) (position_text c.n s.position ++ moment_text c.k s.moment)
+    list_all-append is_line_byte (name_of c s) (position_text c.n s.position ++ moment_text c.kind c.k s.moment)
     ∙ and_from _ _ (word-line_bytes (name_of c s) (name-is_word (name_of c s) plain.name).bytes)
-    (list_all-append is_line_byte (position_text c.n s.position) (moment_text c.k s.moment) ∙ and_from _ _ (numbers-line_bytes c.n (coordinates s.position) hn plain.position) (moment-bytes c.k s.moment hk plain.moment))
+    (list_all-append is_line_byte (position_text c.n s.position) (moment_text c.kind c.k s.moment) ∙ and_from _ _ (numbers-line_bytes c.n (coordinates s.position) hn plain.position) (moment-bytes c.kind c.k s.moment hk plain.moment))
 
 -- And so can those of the metric line.
 pub metric_line-bytes : (c : Structure) → unsigned_abs c.scale < 10 ^ 18 → AreSmall (scalar_products c.metric) → list_all is_line_byte (metric_line c) ≡ true
@@ -135,7 +143,7 @@ metric_line-bytes c h small = numbers-line_bytes (unsigned_abs c.scale) (scalar_
 
 atom_text-line : (c : Structure) (s : Site) (rest : List ℕ) → atom_text c s ++ rest ≡ atom_line c s ++ 10 ∷ rest
 unfolding atom_text
-atom_text-line c s rest = ap (λ (text : List ℕ). 97 ∷ 116 ∷ 111 ∷ 109 ∷ 32 ∷ text) (pieces (name_of c s) (position_text c.n s.position) (moment_text c.k s.moment) rest)
+atom_text-line c s rest = ap (λ (text : List ℕ). 97 ∷ 116 ∷ 111 ∷ 109 ∷ 32 ∷ text) (pieces (name_of c s) (position_text c.n s.position) (moment_text c.kind c.k s.moment) rest)
   where
     pieces : (a b d e : List ℕ) → (a ++ (b ++ (d ++ 10 ∷ []))) ++ e ≡ (a ++ (b ++ d)) ++ 10 ∷ e
     pieces a b d e = simp append_assoc
@@ -153,13 +161,13 @@ atoms_text-lines c (s ∷ sites) rest hn hk plain =
     ∙ ap (λ (ls : List (List ℕ)). atom_line c s ∷ ls) (atoms_text-lines c sites rest hn hk plain.1)
 
 -- The lines of the printed text.
-pub cell_file_text-lines : (c : Structure) → unsigned_abs c.scale < 10 ^ 18 → c.n < 10 ^ 18 → c.k < 10 ^ 18 → AreSmall (scalar_products c.metric) → ArePlain c c.sites → lines (cell_file_text c) ≡ heading_line ∷ metric_line c ∷ (atom_lines c c.sites ++ end_word ∷ [])
+pub cell_file_text-lines : (c : Structure) → unsigned_abs c.scale < 10 ^ 18 → c.n < 10 ^ 18 → c.k < 10 ^ 18 → AreSmall (scalar_products c.metric) → ArePlain c c.sites → lines (cell_file_text c) ≡ heading_line c.kind ∷ (kind_lines c.kind ++ metric_line c ∷ (atom_lines c c.sites ++ end_word ∷ []))
 cell_file_text-lines c hd hn hk small plain =
-    ap lines (pieces heading_line (metric_line c) (atoms_text c c.sites))
-    ∙ lines_line heading_line (metric_line c ++ 10 ∷ (atoms_text c c.sites ++ (end_word ++ 10 ∷ []))) refl
-    ∙ ap (λ (ls : List (List ℕ)). heading_line ∷ ls)
-    (lines_line (metric_line c) (atoms_text c c.sites ++ (end_word ++ 10 ∷ [])) (metric_line-bytes c hd small)
+    first_lines-cut c.kind (metric_and_atoms_text c)
+    ∙ ap (λ (ls : List (List ℕ)). heading_line c.kind ∷ (kind_lines c.kind ++ ls))
+    (ap lines (pieces (metric_line c) (atoms_text c c.sites))
+    ∙ lines_line (metric_line c) (atoms_text c c.sites ++ (end_word ++ 10 ∷ [])) (metric_line-bytes c hd small)
     ∙ ap (λ (ls : List (List ℕ)). metric_line c ∷ ls) (atoms_text-lines c c.sites (end_word ++ 10 ∷ []) hn hk plain))
   where
-    pieces : (a b d : List ℕ) → (a ++ 10 ∷ []) ++ (((b ++ 10 ∷ []) ++ d) ++ (end_word ++ 10 ∷ [])) ≡ a ++ 10 ∷ (b ++ 10 ∷ (d ++ (end_word ++ 10 ∷ [])))
-    pieces a b d = simp append_assoc
+    pieces : (b d : List ℕ) → ((b ++ 10 ∷ []) ++ d) ++ (end_word ++ 10 ∷ []) ≡ b ++ 10 ∷ (d ++ (end_word ++ 10 ∷ []))
+    pieces b d = simp append_assoc

@@ -4,23 +4,27 @@ use Rattle.std.specs.Prelude.{ℤ, pos, negsuc, ◌<ℤ◌, unsigned_abs, ◌&&�
 use Rattle.std.specs.List.{list_all}
 use Rattle.std.proofs.lemmas.Bool.{le-leb, lt-ltb, and_parts, and_from}
 use Rattle.std.proofs.lemmas.Int.{ints}
+use Rattle.crystal_spec.specs.declared.MomentKind.{MomentKind}
 use Rattle.crystal_spec.specs.Matrices.{Triple, Matrix}
+use Rattle.crystal_spec.specs.Moments.{IsOfKind}
 use Rattle.crystal_spec.specs.Crystals.{Site, Structure, IsPositive}
 use Rattle.crystal.specs.Cells.{IsSymmetric}
 use Rattle.crystal.specs.Names.{is_name}
 use Rattle.numbers.specs.Fraction.{Fraction}
 use Rattle.plain_text.specs.NumberWords.{scaled, common_denominator, number_value}
 use Rattle.plain_text.specs.FirstFaults.{first_of}
-use Rattle.cell_text.specs.declared.version.Version.TheVariants.{One}
+use Rattle.cell_text.specs.declared.version.Version.{Version}
 use Rattle.cell_text.specs.Lines.{word_fault, metric_entry, atom_entry, behind_atom, entry_of_words, entry_of}
-use Rattle.cell_text.specs.Entries.{AtomLine, ScaledMetric, values, number_at, atom_of, scaled_tensor, metric_of, symmetric, is_billion, is_metric_in_range, is_positive}
-use Rattle.cell_print.specs.CellFileText.{scalar_products, coordinates, is_zero, is_nothing}
+use Rattle.cell_text.specs.Entries.{AtomLine, ScaledMetric, values, nothing, number_at, atom_of, scaled_tensor, metric_of, symmetric, is_billion, is_metric_in_range, is_positive}
+use Rattle.cell_text.specs.Rules.{are_numbers_of}
+use Rattle.cell_print.specs.CellFileText.{scalar_products, coordinates, is_zero, is_nothing, moment_numbers}
 use Rattle.cell_print.specs.Printable.{divisor_with, AreAtMost}
 use Rattle.plain_text.specs.NumberText.{number_text}
 use Rattle.cell_text.proofs.WordFaults.{word_passes}
 use Rattle.plain_text.proofs.NumberWords.{reduced, number_text-value, number_text-no_fault}
 use Rattle.cell_print.proofs.TextCuts.{AreSmall, number_texts}
 use Rattle.cell_print.proofs.CommonDenominators.{common_denominator-reduced, scaled-reduced, reduced-zero}
+use Rattle.cell_print.proofs.FirstLines.{kind_as}
 use Rattle.cell_print.proofs.PrintedLines.{metric_line, atom_line, name_of, moment_words, IsPlain, atom_line-words, metric_line-words}
 
 -- ---- numbers
@@ -108,10 +112,10 @@ positive-test g h = and_from _ _ (and_from _ _ (above _ h.first) (above _ h.seco
 pub metric_line-positive : (c : Structure) → IsPlainMetric c → is_positive (metric_of (values (metric_words c))).entries ≡ true
 metric_line-positive c h = ap (λ (m : ScaledMetric). is_positive m.entries) (metric_line-read c h) ∙ positive-test c.metric h.positive
 
--- It is a metric line.
-pub metric_line-is : (c : Structure) → IsPlainMetric c → entry_of One (metric_line c) ≡ metric_entry (metric_words c)
+-- It is a metric line, in each version.
+pub metric_line-is : (version : Version) (c : Structure) → IsPlainMetric c → entry_of version (metric_line c) ≡ metric_entry (metric_words c)
 unfolding entry_of
-metric_line-is c h = ap (entry_of_words One) (metric_line-words c (omega (arith, h.small_scale)) h.small)
+metric_line-is version c h = ap (entry_of_words version) (metric_line-words c (omega (arith, h.small_scale)) h.small)
 
 -- Its words are numbers.
 pub metric_line-no_fault : (c : Structure) → IsPlainMetric c → first_of (map word_fault (metric_words c)) ≡ None
@@ -147,10 +151,24 @@ zero_is (pos zero) e = refl
 zero_is (pos (suc n)) e = absurd cc
 zero_is (negsuc n) e = absurd cc
 
-moment_words-values : (k : ℕ) (m : Triple) → 0 < k → k < 10 ^ 18 → AreSmall (coordinates m) → moment_values (values (moment_words k m)) ≡ map (reduced k) (coordinates m)
-moment_words-values k m some h small = by (is_nothing m) refl
+-- the number of a scalar, and 0 for the two others
+scalar-values : (k : ℕ) (m : Triple) → 0 < k → k < 10 ^ 18 → AreSmall (coordinates m) → m.y ≡ pos 0 → m.z ≡ pos 0 → moment_values (values (number_texts k (m.x ∷ []))) ≡ map (reduced k) (coordinates m)
+scalar-values k m some h small y_none z_none =
+    let y : nothing ≡ reduced k m.y = sym (reduced-zero k some) ∙ ap (reduced k) (sym y_none) in
+    let z : nothing ≡ reduced k m.z = sym (reduced-zero k some) ∙ ap (reduced k) (sym z_none) in
+    ap moment_values (number_texts-values k (m.x ∷ []) some h (small.0, tt)) ∙ (λ i. reduced k m.x ∷ y i ∷ z i ∷ [])
+
+numbers-values : (kind : MomentKind) (k : ℕ) (m : Triple) → 0 < k → k < 10 ^ 18 → AreSmall (coordinates m) → IsOfKind kind m → moment_values (values (number_texts k (moment_numbers kind m))) ≡ map (reduced k) (coordinates m)
+numbers-values kind k m some h small of_kind = by kind.vector refl
   where
-    by : (b : Bool) → is_nothing m ≡ b → moment_values (values (if b then [] else number_texts k (coordinates m))) ≡ map (reduced k) (coordinates m)
+    by : (vector : Bool) → kind.vector ≡ vector → moment_values (values (number_texts k (if vector then coordinates m else m.x ∷ []))) ≡ map (reduced k) (coordinates m)
+    by true e = number_texts-values k (coordinates m) some h small
+    by false e = scalar-values k m some h small (of_kind e).0 (of_kind e).1
+
+moment_words-values : (kind : MomentKind) (k : ℕ) (m : Triple) → 0 < k → k < 10 ^ 18 → AreSmall (coordinates m) → IsOfKind kind m → moment_values (values (moment_words kind k m)) ≡ map (reduced k) (coordinates m)
+moment_words-values kind k m some h small of_kind = by (is_nothing m) refl
+  where
+    by : (b : Bool) → is_nothing m ≡ b → moment_values (values (if b then [] else number_texts k (moment_numbers kind m))) ≡ map (reduced k) (coordinates m)
     by true e =
         let p = and_parts (is_zero m.x && is_zero m.y) (is_zero m.z) e in
         let q = and_parts (is_zero m.x) (is_zero m.y) p.0 in
@@ -158,11 +176,11 @@ moment_words-values k m some h small = by (is_nothing m) refl
         let y = sym (reduced-zero k some) ∙ ap (reduced k) (sym (zero_is m.y q.1)) in
         let z = sym (reduced-zero k some) ∙ ap (reduced k) (sym (zero_is m.z p.1)) in
         λ i. x i ∷ y i ∷ z i ∷ []
-    by false e = number_texts-values k (coordinates m) some h small
+    by false e = numbers-values kind k m some h small of_kind
 
 -- the number words of an atom line
 abbrev pub atom_words : Structure → Site → List (List ℕ)
-atom_words c s = number_texts c.n (coordinates s.position) ++ moment_words c.k s.moment
+atom_words c s = number_texts c.n (coordinates s.position) ++ moment_words c.kind c.k s.moment
 
 -- the atom of these values
 abbrev of_values : List ℕ → List Fraction → List Fraction → AtomLine
@@ -171,31 +189,52 @@ of_values name ps ms = record { name = name; x = number_at ps 0; y = number_at p
 -- An atom line says the atom.
 pub atom_line-read : (c : Structure) (s : Site) → HasUnits c → IsPlain c s → atom_of (name_of c s) (values (atom_words c s)) ≡ entry c s
 atom_line-read c s units plain =
-    ap (λ (ps : List Fraction). of_values (name_of c s) ps (moment_values (values (moment_words c.k s.moment)))) (number_texts-values c.n (coordinates s.position) units.some_n (omega (arith, units.small_n)) plain.position)
-    ∙ ap (λ (ms : List Fraction). of_values (name_of c s) (map (reduced c.n) (coordinates s.position)) ms) (moment_words-values c.k s.moment units.some_k (omega (arith, units.small_k)) plain.moment)
+    ap (λ (ps : List Fraction). of_values (name_of c s) ps (moment_values (values (moment_words c.kind c.k s.moment)))) (number_texts-values c.n (coordinates s.position) units.some_n (omega (arith, units.small_n)) plain.position)
+    ∙ ap (λ (ms : List Fraction). of_values (name_of c s) (map (reduced c.n) (coordinates s.position)) ms) (moment_words-values c.kind c.k s.moment units.some_k (omega (arith, units.small_k)) plain.moment plain.of_kind)
+
+numbers-no_fault : (kind : MomentKind) (k : ℕ) (m : Triple) → 0 < k → k < 10 ^ 18 → AreSmall (coordinates m) → first_of (map word_fault (number_texts k (moment_numbers kind m))) ≡ None
+numbers-no_fault kind k m some h small = by kind.vector
+  where
+    by : (vector : Bool) → first_of (map word_fault (number_texts k (if vector then coordinates m else m.x ∷ []))) ≡ None
+    by true = number_texts-no_fault k (coordinates m) [] some h small refl
+    by false = number_texts-no_fault k (m.x ∷ []) [] some h (small.0, tt) refl
 
 -- Its words behind the name are numbers.
 pub atom_line-no_fault : (c : Structure) (s : Site) → HasUnits c → IsPlain c s → first_of (map word_fault (atom_words c s)) ≡ None
 atom_line-no_fault c s units plain =
-    number_texts-no_fault c.n (coordinates s.position) (moment_words c.k s.moment) units.some_n (omega (arith, units.small_n)) plain.position (by (is_nothing s.moment))
+    number_texts-no_fault c.n (coordinates s.position) (moment_words c.kind c.k s.moment) units.some_n (omega (arith, units.small_n)) plain.position (by (is_nothing s.moment))
   where
-    by : (b : Bool) → first_of (map word_fault (if b then [] else number_texts c.k (coordinates s.moment))) ≡ None
+    by : (b : Bool) → first_of (map word_fault (if b then [] else number_texts c.k (moment_numbers c.kind s.moment))) ≡ None
     by true = refl
-    by false = number_texts-no_fault c.k (coordinates s.moment) [] units.some_k (omega (arith, units.small_k)) plain.moment refl
+    by false = numbers-no_fault c.kind c.k s.moment units.some_k (omega (arith, units.small_k)) plain.moment
 
-abbrev has_count : List (List ℕ) → Bool
-has_count ws = length ws == 3 || length ws == 6
+-- what is known of how many words there are behind the name
+record HasCount (kind : MomentKind) (ws : List (List ℕ)) : Type 0 where
+  pub of_any : (length ws == 3 || length ws == 4 || length ws == 6) ≡ true
+  pub of_kind : are_numbers_of kind (length ws) ≡ true
 
-count_is : (c : Structure) (s : Site) (b : Bool) → has_count (number_texts c.n (coordinates s.position) ++ (if b then [] else number_texts c.k (coordinates s.moment))) ≡ true
-count_is c s true = refl
-count_is c s false = refl
+-- the words behind the name, where the moment is 0 or not and a vector or not
+abbrev words_by : Structure → Site → Bool → Bool → List (List ℕ)
+words_by c s none vector = number_texts c.n (coordinates s.position) ++ (if none then [] else number_texts c.k (if vector then coordinates s.moment else s.moment.x ∷ []))
 
-named : (name : List ℕ) (ws : List (List ℕ)) → is_name name ≡ true → has_count ws ≡ true → behind_atom (name ∷ ws) ≡ atom_entry name ws
+count_by : (c : Structure) (s : Site) (none vector axial : Bool) → HasCount (kind_as vector axial) (words_by c s none vector)
+count_by c s true vector axial = record { of_any = refl; of_kind = refl }
+count_by c s false true axial = record { of_any = refl; of_kind = refl }
+count_by c s false false axial = record { of_any = refl; of_kind = refl }
+
+count_is : (c : Structure) (s : Site) → HasCount c.kind (atom_words c s)
+count_is c s = count_by c s (is_nothing s.moment) c.kind.vector c.kind.axial
+
+-- They are as many as the kind asks.
+pub atom_line-count : (c : Structure) (s : Site) → are_numbers_of c.kind (length (atom_words c s)) ≡ true
+atom_line-count c s = (count_is c s).of_kind
+
+named : (name : List ℕ) (ws : List (List ℕ)) → is_name name ≡ true → (length ws == 3 || length ws == 4 || length ws == 6) ≡ true → behind_atom (name ∷ ws) ≡ atom_entry name ws
 named name ws e f = rw (e, f) refl
 
--- It is an atom line.
-pub atom_line-is : (c : Structure) (s : Site) → HasUnits c → IsPlain c s → entry_of One (atom_line c s) ≡ atom_entry (name_of c s) (atom_words c s)
+-- It is an atom line, in each version.
+pub atom_line-is : (version : Version) (c : Structure) (s : Site) → HasUnits c → IsPlain c s → entry_of version (atom_line c s) ≡ atom_entry (name_of c s) (atom_words c s)
 unfolding entry_of
-atom_line-is c s units plain =
-    ap (entry_of_words One) (atom_line-words c s (omega (arith, units.small_n)) (omega (arith, units.small_k)) plain)
-    ∙ named (name_of c s) (atom_words c s) plain.name (count_is c s (is_nothing s.moment))
+atom_line-is version c s units plain =
+    ap (entry_of_words version) (atom_line-words c s (omega (arith, units.small_n)) (omega (arith, units.small_k)) plain)
+    ∙ named (name_of c s) (atom_words c s) plain.name (count_is c s).of_any

@@ -8,13 +8,12 @@ use Rattle.numbers.specs.Residue.{residue}
 use Rattle.numbers.proofs.ResidueRing.{residue_below}
 use Rattle.crystal_spec.specs.declared.MomentKind.{MomentKind}
 use Rattle.crystal_spec.specs.Matrices.{Triple}
-use Rattle.crystal_spec.specs.Moments.{axial_vectors}
 use Rattle.crystal_spec.specs.Crystals.{Site, Structure}
 use Rattle.crystal.specs.Names.{is_name}
 use Rattle.crystal.specs.Occupants.{NoneAt}
 use Rattle.crystal.specs.Cells.{IsCellWithinLimits, IsSiteOf, AreSitesOf, AreApart}
 use Rattle.plain_text.specs.NumberWords.{scaled, common_denominator}
-use Rattle.cell_text.specs.Entries.{positions, moments}
+use Rattle.cell_text.specs.Entries.{kind_of, positions, moments}
 use Rattle.cell_text.specs.Rules.{first_fault, cell_fault}
 use Rattle.cell_text.specs.CellFile.{with_name, names_of, number_of, part_of, site_of, cell_with, cell_of, Spells}
 use Rattle.cell_print.specs.CellFileText.{scalar_products, cell_file_text}
@@ -23,6 +22,7 @@ use Rattle.plain_text.proofs.NumberWords.{reduced}
 use Rattle.cell_print.proofs.TextCuts.{AreSmall}
 use Rattle.cell_print.proofs.CommonDenominators.{common_denominator-reduced, scaled-reduced}
 use Rattle.cell_print.proofs.NamesRead.{number-of_name, names_behind, AreBelow, names-by_first_use}
+use Rattle.cell_print.proofs.FirstLines.{kind-told}
 use Rattle.cell_print.proofs.PrintedLines.{name_of, ArePlain, cell_file_text-lines}
 use Rattle.cell_print.proofs.ReadLines.{IsPlainMetric, HasUnits, entry}
 use Rattle.cell_print.proofs.JudgedText.{CanFollowAll, IsElsewhere, whole, positions-entries, moments-entries, lines-read}
@@ -78,6 +78,7 @@ atoms-plain c (s ∷ sites) small names h most =
         name = name_at c.names s.species names h.0.named;
         position = (abs_within s.position.x c.n small p.x, (abs_within s.position.y c.n small p.y, (abs_within s.position.z c.n small p.z, tt)));
         moment = (omega (arith, most.0), (omega (arith, most.1.0), (omega (arith, most.1.1.0), tt)));
+        of_kind = h.0.of_kind;
       },
       atoms-plain c sites small names h.1 most.1.1.1,
     )
@@ -155,10 +156,10 @@ cell_with-whole c cell printable =
     ∙ ap (λ (m : ℕ). made (pos (unsigned_abs c.scale)) c.names c.n m (map (site_of c.names c.n m) (map (entry c) c.sites))) k
     ∙ ap (λ (z : ℤ). made z c.names c.n c.k (map (site_of c.names c.n c.k) (map (entry c) c.sites))) scale
     ∙ ap (made c.scale c.names c.n c.k) (sites-whole c c.sites cell cell.sites)
-    ∙ ap (λ (kind : MomentKind). record c { kind = kind }) (sym printable.kind)
+    ∙ ap (λ (kind : MomentKind). record c { kind = kind }) (kind-told c.kind)
   where
     made : ℤ → List (List ℕ) → ℕ → ℕ → List Site → Structure
-    made scale names n k sites = record { names = names; scale = scale; metric = c.metric; n = n; k = k; kind = axial_vectors; sites = sites }
+    made scale names n k sites = record { names = names; scale = scale; metric = c.metric; n = n; k = k; kind = kind_of (whole c); sites = sites }
 
 -- ---- the text spells the cell
 

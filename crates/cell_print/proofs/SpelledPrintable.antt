@@ -21,7 +21,7 @@ use Rattle.numbers.specs.Fraction.{Fraction}
 use Rattle.plain_text.specs.NumberWords.{common_denominator, scaled, numerator_part, denominator_part, number_fault, number_value}
 use Rattle.plain_text.specs.FirstFaults.{when, or_else, first_of}
 use Rattle.plain_text.specs.Digits.{is_digits, value_of_digits}
-use Rattle.cell_text.specs.Lines.{word_fault, same_word, Entry, skipped, metric_entry, atom_entry, end_entry, other_entry}
+use Rattle.cell_text.specs.Lines.{word_fault, same_word, Entry, skipped, metric_entry, atom_entry, end_entry, kind_entry, other_entry}
 use Rattle.cell_text.specs.Entries.{AtomLine, ScaledMetric, Contents, values, nothing, number_at, atom_of, metric_of, with_entry, state_after, contents, positions, moments, is_billion, is_metric_in_range, are_moments_in_range}
 use Rattle.cell_text.specs.Rules.{metric_fault, atom_fault, entry_fault}
 use Rattle.cell_text.specs.CellFile.{Spells, cell_with, with_name, names_of, site_of, no_metric}
@@ -154,6 +154,7 @@ later_printable held (atom_entry name ws) n e h = record {
   moments = moments_fit held name ws e;
 }
 later_printable held end_entry n e h = record { metrics = h.metrics; some = λ ended. end_behind_metric held e; atoms = h.atoms; moments = h.moments }
+later_printable held (kind_entry kind) n e h = record { metrics = h.metrics; some = h.some; atoms = h.atoms; moments = h.moments }
 later_printable held other_entry n e h = absurd cc
 
 nothing_printable : HoldsPrintable (contents [])
@@ -236,7 +237,6 @@ contents_printable held h some numbered =
     let ps = all_positions (map (site_of names n k) held.atoms) in
     let ms = all_moments (map (site_of names n k) held.atoms) in
     record {
-      kind = refl;
       least_scale = m.least;
       least_n = least_unit (positions held.atoms) (positions_lowest held.atoms h.atoms) (divisor_with n ps) (divisor-start n ps) (positions_divided names n k (divisor_with n ps) held.atoms (divisor-start n ps) (divisor-each n ps));
       least_k = least_unit (moments held.atoms) (moments_lowest held.atoms h.atoms) (divisor_with k ms) (divisor-start k ms) (moments_divided names n k (divisor_with k ms) held.atoms (divisor-each k ms));

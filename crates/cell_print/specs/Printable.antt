@@ -8,7 +8,6 @@
 use Rattle.std.specs.Prelude.{◌≡◌, ℕ, ℤ, pos, ◌^◌, ◌≤◌, ◌≤ℤ◌, true, List, [], ◌∷◌, length, unsigned_abs}
 use Rattle.std.specs.List.{fold, flat_map, list_all}
 use Rattle.numbers.specs.Gcd.{gcd}
-use Rattle.crystal_spec.specs.Moments.{axial_vectors}
 use Rattle.crystal_spec.specs.Crystals.{Site, Structure}
 use Rattle.crystal.specs.Names.{is_name}
 use Rattle.crystal.specs.Numbering.{AreByFirstUse}
@@ -31,10 +30,9 @@ abbrev pub AreAtMost : ℕ → List ℤ → Type 0
 AreAtMost bound [] = Unit {0}
 AreAtMost bound (z ∷ zs) = (unsigned_abs z ≤ bound) × AreAtMost bound zs
 
--- Moments are axial vectors, the units are the least ones, sizes are within the limits of the cell file, names have the form
--- of names, and species are numbered in the order of their first use, with no name that no atom has.
+-- The units are the least ones, sizes are within the limits of the cell file, names have the form of names, and species are
+-- numbered in the order of their first use, with no name that no atom has. The moments may be of any kind.
 pub record IsPrintable (c : Structure) : Type 0 where
-  pub kind : c.kind ≡ axial_vectors
   pub least_scale : divisor_with (unsigned_abs c.scale) (scalar_products c.metric) ≡ 1
   pub least_n : divisor_with c.n (all_positions c.sites) ≡ 1
   pub least_k : divisor_with c.k (all_moments c.sites) ≡ 1

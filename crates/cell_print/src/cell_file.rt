@@ -1,18 +1,50 @@
 // The lines of a cell file.
-ghost use Rattle.std.specs.Prelude.{◌≡◌, ◌++◌, List, ℕ, IfOk, OnOk, length, ◌<◌, ◌≤◌};
+ghost use Rattle.std.specs.Prelude.{◌≡◌, ◌++◌, List, ℕ, IfOk, OnOk, OnErr, length, ◌<◌, ◌≤◌};
 ghost use Rattle.crystal_spec.specs.Crystals.{Structure};
 ghost use Rattle.crystal.specs.Views.{metric_of, site_of, triple_of};
 ghost use Rattle.cell_text.specs.CellFile.{Spells};
 ghost use Rattle.cell_print.specs.Printable.{IsPrintable};
-ghost use Rattle.cell_print.specs.CellFileText.{scalar_products, position_text, metric_text, moment_text, atom_text, atoms_text, cell_lines_text, cell_file_text};
+ghost use Rattle.cell_print.specs.CellFileText.{heading_text, kind_text, scalar_products, position_text, metric_text, moment_text, atom_text, atoms_text, metric_and_atoms_text, cell_lines_text, cell_file_text};
 ghost use Rattle.plain_text.specs.NumberText.{numbers_text};
 
-use crystal::{Atom, Cell, Metric, Name};
+use crystal::{Atom, Cell, Metric, MomentKind, Name};
 use exact_num::Int;
 use io_edge::Bytes;
 use matrix3::Vec3;
 use plain_text::push_numbers;
 use std::alloc::{AllocError, Global};
+
+/// Adds the first line of the cell file of a cell with moments of this kind, which tells the version.
+///
+/// It is `magcell 1` where moments are axial vectors, and else `magcell 2`. Refuses for want of memory alone, and then leaves
+/// the list as it was.
+pub fn push_heading(out: &mut Bytes, kind: MomentKind) -> Result<(), AllocError>
+    ensures value { OnOk result (out.new ≡ out.old ++ heading_text kind) }
+    ensures unchanged { OnErr result (out.new ≡ out.old) }
+{
+    if kind.vector && kind.axial {
+        out.append(b"magcell 1\n")
+    } else {
+        out.append(b"magcell 2\n")
+    }
+}
+
+/// Adds the kind line, which axial vectors do not have.
+fn push_kind(out: &mut Bytes, kind: MomentKind) -> Result<(), AllocError>
+    ensures { OnOk result (out.new ≡ out.old ++ kind_text kind) }
+{
+    if kind.vector {
+        if kind.axial {
+            Ok(())
+        } else {
+            out.append(b"kind vector plain\n")
+        }
+    } else if kind.axial {
+        out.append(b"kind scalar axial\n")
+    } else {
+        out.append(b"kind scalar plain\n")
+    }
+}
 
 /// Adds the six scalar products of the axes, of a metric tensor in units of 1/scale, a space before each.
 ///
@@ -65,21 +97,26 @@ pub fn push_name(out: &mut Bytes, name: &Name) -> Result<(), AllocError>
     Ok(())
 }
 
-/// Adds a moment in units of 1/k, where it is not 0 0 0.
+/// Adds a moment in units of 1/k, where it is not 0: three numbers of a vector, one of a scalar.
 fn push_moment(
     alloc: Global,
     out: &mut Bytes,
+    kind: MomentKind,
     k: u128,
     moment: &Vec3<Int>,
 ) -> Result<(), AllocError>
     requires { 1 ≤ k }
-    ensures { OnOk result (out.new ≡ out.old ++ moment_text k moment.now) }
+    ensures { OnOk result (out.new ≡ out.old ++ moment_text kind k moment.now) }
 {
     let m = *moment;
     if m.x.get() == 0 && m.y.get() == 0 && m.z.get() == 0 {
         return Ok(());
     }
-    push_numbers(alloc, out, &[m.x.get(), m.y.get(), m.z.get()], k)
+    if kind.vector {
+        push_numbers(alloc, out, &[m.x.get(), m.y.get(), m.z.get()], k)
+    } else {
+        push_numbers(alloc, out, &[m.x.get()], k)
+    }
 }
 
 /// Adds a position in units of 1/n.
@@ -100,7 +137,7 @@ fn push_atom(alloc: Global, out: &mut Bytes, cell: &Cell, atom: &Atom) -> Result
     out.append(b"atom ")?;
     push_name(out, cell.name(atom.species))?;
     push_position(alloc, out, cell.n() as u128, atom.place)?;
-    push_moment(alloc, out, cell.k() as u128, &atom.moment)?;
+    push_moment(alloc, out, cell.kind(), cell.k() as u128, &atom.moment)?;
     out.push(b'\n')?;
     Ok(())
 }
@@ -115,12 +152,9 @@ fn push_atoms(alloc: Global, out: &mut Bytes, cell: &Cell) -> Result<(), AllocEr
     Ok(())
 }
 
-/// Adds the lines of the cell file of a cell behind its first: the metric tensor, one line an atom in order, and `end`.
-///
-/// Each number is in lowest terms, and a moment of 0 0 0 is left out. Refuses for want of memory alone; what is added then
-/// is left open.
-pub fn push_cell(alloc: Global, out: &mut Bytes, cell: &Cell) -> Result<(), AllocError>
-    ensures { OnOk result (out.new ≡ out.old ++ cell_lines_text cell.now) }
+/// Adds the metric line, the lines of all atoms, and `end`.
+fn push_metric_and_atoms(alloc: Global, out: &mut Bytes, cell: &Cell) -> Result<(), AllocError>
+    ensures { OnOk result (out.new ≡ out.old ++ metric_and_atoms_text cell.now) }
 {
     let _form = cell.count();
     let scale = cell.scale().get().unsigned_abs();
@@ -130,16 +164,29 @@ pub fn push_cell(alloc: Global, out: &mut Bytes, cell: &Cell) -> Result<(), Allo
     Ok(())
 }
 
-/// The cell file of a cell.
+/// Adds the lines of the cell file of a cell behind its first.
 ///
-/// Each number is in lowest terms, and a moment of 0 0 0 is left out. A cell of axial vectors whose units are the least ones,
-/// within the limits of the cell file, is the one that the text spells. Refuses for want of memory alone.
+/// They are the kind line, which a cell of axial vectors does not have, the metric line, one line an atom in order, and `end`.
+/// Each number is in lowest terms, and a moment of 0 is left out. Refuses for want of memory alone; what is added then is left
+/// open.
+pub fn push_cell(alloc: Global, out: &mut Bytes, cell: &Cell) -> Result<(), AllocError>
+    ensures { OnOk result (out.new ≡ out.old ++ cell_lines_text cell.now) }
+{
+    push_kind(out, cell.kind())?;
+    push_metric_and_atoms(alloc, out, cell)
+}
+
+/// The cell file of a cell: of version 1 where moments are axial vectors, and else of version 2.
+///
+/// Each number is in lowest terms, and a moment of 0 is left out. A cell whose units are the least ones, within the limits of
+/// the cell file, is the one that the text spells. Refuses for want of memory alone.
 pub fn print_cell(alloc: Global, cell: &Cell) -> Result<Bytes, AllocError>
     ensures value { IfOk result (λ text. text ≡ cell_file_text cell.now) }
     ensures spelled { IfOk result (λ text. IsPrintable cell.now → Spells text cell.now) }
 {
     let _form = cell.count();
-    let mut out = Bytes::copy(alloc, b"magcell 1\n")?;
+    let mut out = Bytes::new(alloc);
+    push_heading(&mut out, cell.kind())?;
     push_cell(alloc, &mut out, cell)?;
     Ok(out)
 }

@@ -7,7 +7,8 @@ use std::alloc::Global;
 /// A text, and the cell file of the cell that it spells.
 struct Row(&'static [u8], &'static [u8]);
 
-/// Numbers in lowest terms and others, of cells at right angles and an oblique one, with moments, without, and with both.
+/// Numbers in lowest terms and others, of cells at right angles and an oblique one, with moments, without, and with both; and
+/// moments of each kind, with the kind told, by default, and behind the metric line.
 #[rattlefmt::skip]
 const CELLS: &[Row] = &[
     Row(b"magcell 1\nmetric 1 1 4 0 0 0\natom A 0 0 0 0 0 1\natom A 0 0 1/2 0 0 -1\nend\n",
@@ -25,6 +26,14 @@ metric 2375/100 2375/100 1096/100 0 0 0\r\nend",
         b"magcell 1\nmetric 4 1 1 0 0 0\natom A 0 0 0 0 0 1\natom A 1/2 0 0 0 0 -1\nend\n"),
     Row(b"magcell 1\nmetric 4 1 1 0 0 0\natom A 0 0 0\natom A 1/2 0 0\nend\n",
         b"magcell 1\nmetric 4 1 1 0 0 0\natom A 0 0 0\natom A 1/2 0 0\nend\n"),
+    Row(b"magcell 2\nkind vector\nmetric 1 1 1 0 0 0\natom A 0 0 0 0 0 1\nend\n",
+        b"magcell 1\nmetric 1 1 1 0 0 0\natom A 0 0 0 0 0 1\nend\n"),
+    Row(b"magcell 2\nmetric 1 1 4 0 0 0\nkind vector plain\natom A 0 0 0 1/2 0 -1\natom A 0 0 1/2 0 0 0\nend\n",
+        b"magcell 2\nkind vector plain\nmetric 1 1 4 0 0 0\natom A 0 0 0 1/2 0 -1\natom A 0 0 1/2\nend\n"),
+    Row(b"magcell 2\nkind scalar axial\nmetric 1 1 1 0 0 0\natom A 0 0 0 1\nend\n",
+        b"magcell 2\nkind scalar axial\nmetric 1 1 1 0 0 0\natom A 0 0 0 1\nend\n"),
+    Row(b"magcell 2\nkind scalar\nmetric 1 1 4 0 0 0\natom A 0 0 0 6/4\natom A 0 0 1/2 -4/2\natom B 1/2 1/2 0 0/5\natom B 1/2 1/2 1/2\nend\n",
+        b"magcell 2\nkind scalar plain\nmetric 1 1 4 0 0 0\natom A 0 0 0 3/2\natom A 0 0 1/2 -2\natom B 1/2 1/2 0\natom B 1/2 1/2 1/2\nend\n"),
 ];
 
 /// The text that is printed of the cell that a short text spells.
@@ -57,6 +66,6 @@ fn first_wrong(alloc: Global, rows: &[Row]) -> usize {
 }
 
 #[test]
-fn numbers_are_in_lowest_terms(rt: HostRuntime) {
+fn cells_are_printed_in_lowest_terms_by_kind(rt: HostRuntime) {
     assert_eq!(rt; first_wrong(rt.alloc(), CELLS), CELLS.len());
 }

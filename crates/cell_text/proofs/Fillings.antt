@@ -1,17 +1,20 @@
 -- A cell while its atoms are added.
 use Rattle.std.proofs.Common.{◌≡◌, ℕ, zero, suc, ◌+◌, ◌<◌, ◌≤◌, List, [], ◌∷◌, ◌++◌, length, map, take, drop, get_or, refl, sym, ap, subst, ◌∙◌, arith, add-one, length-append, length-drop, ◌-◌}
-use Rattle.std.specs.Prelude.{pos}
+use Rattle.std.specs.Prelude.{pos, false, ◌/◌}
+use Rattle.std.proofs.Math.IntN.{zero-*ℤ}
 use Rattle.std.proofs.lemmas.List.{map-append, length-map, take_rest}
 use Rattle.crystal_spec.specs.Increasing.{IsMember}
-use Rattle.crystal_spec.specs.Moments.{axial_vectors}
+use Rattle.crystal_spec.specs.declared.MomentKind.{MomentKind}
+use Rattle.crystal_spec.specs.Moments.{axial_vectors, IsOfKind}
+use Rattle.crystal_spec.specs.Matrices.{Triple}
 use Rattle.crystal_spec.specs.Crystals.{Site, Structure}
 use Rattle.cell_text.specs.declared.atom_line.AtomLine.{AtomLine as CodeAtom}
 use Rattle.crystal.specs.Occupants.{NoneAt}
-use Rattle.plain_text.specs.NumberWords.{common_denominator}
-use Rattle.cell_text.specs.Entries.{AtomLine, ScaledMetric, positions, moments}
+use Rattle.plain_text.specs.NumberWords.{common_denominator, scaled}
+use Rattle.cell_text.specs.Entries.{AtomLine, ScaledMetric, nothing, positions, moments}
 use Rattle.cell_text.specs.CellFile.{with_name, names_of, number_of, site_of, position_of, moment_of, cell_with}
 use Rattle.cell_text.specs.Filling.{with_site, filled, whole_of}
-use Rattle.cell_text.specs.Views.{atom_view, AreApart}
+use Rattle.cell_text.specs.Views.{atom_view, AreApart, IsOfScalar, AreOfKind}
 use Rattle.cell_text.proofs.Apart.{AllDivide, all_divide, none_before}
 use Rattle.cell_text.proofs.NameLemmas.{old_name, new_name, new_member, number_below, with_most, names-more, number-final, names_at_most}
 
@@ -52,18 +55,18 @@ site-final n k held b later = ap (λ (i : ℕ). at i) (sym (number-final held b 
     at : ℕ → Site
     at i = record { species = i; position = position_of n b; moment = moment_of k b }
 
-abbrev made : ScaledMetric → ℕ → ℕ → List (List ℕ) → List Site → Structure
-made metric n k names sites = record { names = names; scale = pos metric.scale; metric = metric.entries; n = n; k = k; kind = axial_vectors; sites = sites }
+abbrev made : MomentKind → ScaledMetric → ℕ → ℕ → List (List ℕ) → List Site → Structure
+made kind metric n k names sites = record { names = names; scale = pos metric.scale; metric = metric.entries; n = n; k = k; kind = kind; sites = sites }
 
-with_two : (metric : ScaledMetric) (n k : ℕ) (names ns : List (List ℕ)) (sites ss : List Site) → names ≡ ns → sites ≡ ss → made metric n k names sites ≡ made metric n k ns ss
-with_two metric n k names ns sites ss e f = ap (λ (xs : List (List ℕ)). made metric n k xs sites) e ∙ ap (made metric n k ns) f
+with_two : (kind : MomentKind) (metric : ScaledMetric) (n k : ℕ) (names ns : List (List ℕ)) (sites ss : List Site) → names ≡ ns → sites ≡ ss → made kind metric n k names sites ≡ made kind metric n k ns ss
+with_two kind metric n k names ns sites ss e f = ap (λ (xs : List (List ℕ)). made kind metric n k xs sites) e ∙ ap (made kind metric n k ns) f
 
-pub filled_more : (metric : ScaledMetric) (n k : ℕ) (all held : List AtomLine) (b : AtomLine) (later : List AtomLine) → all ≡ held ++ b ∷ later → with_site (filled metric n k all held) b ≡ filled metric n k all (held ++ b ∷ [])
-filled_more metric n k all held b later e =
+pub filled_more : (kind : MomentKind) (metric : ScaledMetric) (n k : ℕ) (all held : List AtomLine) (b : AtomLine) (later : List AtomLine) → all ≡ held ++ b ∷ later → with_site (filled kind metric n k all held) b ≡ filled kind metric n k all (held ++ b ∷ [])
+filled_more kind metric n k all held b later e =
     let names = sym (names-more held b) in
     let final = site-final n k held b later ∙ ap (λ (xs : List AtomLine). site_of (names_of xs) n k b) (sym e) in
     let sites = ap (λ (s : Site). map (site_of (names_of all) n k) held ++ s ∷ []) final ∙ sym (map-append (site_of (names_of all) n k) held (b ∷ [])) in
-    with_two metric n k _ _ _ _ names sites
+    with_two kind metric n k _ _ _ _ names sites
 
 -- ---- the number of a species
 
@@ -101,42 +104,64 @@ all_taken atoms i h =
     let rest : take (length atoms - 1) (drop 1 atoms) ≡ drop 1 atoms = take_rest atoms 1 in
     ap (map atom_view) (sym (take_past atoms (suc i) (omega (arith, h, ap length rest, length-drop 1 atoms))))
 
-pub filled_first : (metric : ScaledMetric) (n k : ℕ) (all : List AtomLine) (b : AtomLine) (later : List AtomLine) → all ≡ b ∷ later → made metric n k (b.name ∷ []) (record { species = 0; position = position_of n b; moment = moment_of k b } ∷ []) ≡ filled metric n k all (b ∷ [])
+pub filled_first : (kind : MomentKind) (metric : ScaledMetric) (n k : ℕ) (all : List AtomLine) (b : AtomLine) (later : List AtomLine) → all ≡ b ∷ later → made kind metric n k (b.name ∷ []) (record { species = 0; position = position_of n b; moment = moment_of k b } ∷ []) ≡ filled kind metric n k all (b ∷ [])
 unfolding names_of
-filled_first metric n k all b later e =
+filled_first kind metric n k all b later e =
     let number : number_of (names_of all) b.name ≡ 0 = ap (λ (xs : List AtomLine). number_of (names_of xs) b.name) e ∙ number-final [] b later in
-    with_two metric n k _ _ _ _ refl (ap (λ (s : Site). s ∷ []) (ap at (sym number)))
+    with_two kind metric n k _ _ _ _ refl (ap (λ (s : Site). s ∷ []) (ap at (sym number)))
   where
     at : ℕ → Site
     at i = record { species = i; position = position_of n b; moment = moment_of k b }
 
 -- no atom so far is at the position of the next
-pub free_more : (metric : ScaledMetric) (n k : ℕ) (all held : List AtomLine) (b : AtomLine) (later : List AtomLine) (cell : Structure) → all ≡ held ++ b ∷ later → n ≡ common_denominator (positions all) → 1 ≤ n → AreApart all → cell ≡ filled metric n k all held → NoneAt (position_of cell.n b) cell.sites
-free_more metric n k all held b later cell e is some apart view =
+pub free_more : (kind : MomentKind) (metric : ScaledMetric) (n k : ℕ) (all held : List AtomLine) (b : AtomLine) (later : List AtomLine) (cell : Structure) → all ≡ held ++ b ∷ later → n ≡ common_denominator (positions all) → 1 ≤ n → AreApart all → cell ≡ filled kind metric n k all held → NoneAt (position_of cell.n b) cell.sites
+free_more kind metric n k all held b later cell e is some apart view =
     let divide : AllDivide n all = subst (λ (m : ℕ). AllDivide m all) (sym is) (all_divide 1 all) in
     subst (λ (s : Structure). NoneAt (position_of s.n b) s.sites) (sym view) (none_before (names_of all) n k held b later some (subst (AllDivide n) e divide) (subst AreApart e apart))
 
-pub fewer_sites : (metric : ScaledMetric) (n k : ℕ) (all held : List AtomLine) (b : AtomLine) (later : List AtomLine) (cell : Structure) → all ≡ held ++ b ∷ later → length all ≤ 512 → cell ≡ filled metric n k all held → length cell.sites < 512
-fewer_sites metric n k all held b later cell e few view =
+pub fewer_sites : (kind : MomentKind) (metric : ScaledMetric) (n k : ℕ) (all held : List AtomLine) (b : AtomLine) (later : List AtomLine) (cell : Structure) → all ≡ held ++ b ∷ later → length all ≤ 512 → cell ≡ filled kind metric n k all held → length cell.sites < 512
+fewer_sites kind metric n k all held b later cell e few view =
     omega (arith, ap (λ (s : Structure). length s.sites) view, length-map held (site_of (names_of all) n k), ap length e, length-append held (b ∷ later), few)
 
-pub fewer_names : (metric : ScaledMetric) (n k : ℕ) (all held : List AtomLine) (b : AtomLine) (later : List AtomLine) (cell : Structure) → all ≡ held ++ b ∷ later → length all ≤ 512 → cell ≡ filled metric n k all held → length cell.names < 512
-fewer_names metric n k all held b later cell e few view =
+pub fewer_names : (kind : MomentKind) (metric : ScaledMetric) (n k : ℕ) (all held : List AtomLine) (b : AtomLine) (later : List AtomLine) (cell : Structure) → all ≡ held ++ b ∷ later → length all ≤ 512 → cell ≡ filled kind metric n k all held → length cell.names < 512
+fewer_names kind metric n k all held b later cell e few view =
     omega (arith, ap (λ (s : Structure). length s.names) view, names_at_most held, ap length e, length-append held (b ∷ later), few)
 
-pub filled_next : (metric : ScaledMetric) (n k : ℕ) (all held more : List AtomLine) (b : AtomLine) (later : List AtomLine) (cell new : Structure) → all ≡ held ++ b ∷ later → more ≡ held ++ b ∷ [] → cell ≡ filled metric n k all held → new ≡ with_site cell b → new ≡ filled metric n k all more
-filled_next metric n k all held more b later cell new e step view is =
-    is ∙ ap (λ (s : Structure). with_site s b) view ∙ filled_more metric n k all held b later e ∙ ap (filled metric n k all) (sym step)
+pub filled_next : (kind : MomentKind) (metric : ScaledMetric) (n k : ℕ) (all held more : List AtomLine) (b : AtomLine) (later : List AtomLine) (cell new : Structure) → all ≡ held ++ b ∷ later → more ≡ held ++ b ∷ [] → cell ≡ filled kind metric n k all held → new ≡ with_site cell b → new ≡ filled kind metric n k all more
+filled_next kind metric n k all held more b later cell new e step view is =
+    is ∙ ap (λ (s : Structure). with_site s b) view ∙ filled_more kind metric n k all held b later e ∙ ap (filled kind metric n k all) (sym step)
 
-pub names_next : (metric : ScaledMetric) (n k : ℕ) (all held more : List AtomLine) (b : AtomLine) (cell : Structure) (names : List (List ℕ)) → more ≡ held ++ b ∷ [] → cell ≡ filled metric n k all held → names ≡ with_name cell.names b.name → names ≡ names_of more
-names_next metric n k all held more b cell names step view is =
+pub names_next : (kind : MomentKind) (metric : ScaledMetric) (n k : ℕ) (all held more : List AtomLine) (b : AtomLine) (cell : Structure) (names : List (List ℕ)) → more ≡ held ++ b ∷ [] → cell ≡ filled kind metric n k all held → names ≡ with_name cell.names b.name → names ≡ names_of more
+names_next kind metric n k all held more b cell names step view is =
     is ∙ ap (λ (s : Structure). with_name s.names b.name) view ∙ sym (names-more held b) ∙ ap names_of (sym step)
 
-pub filled_all : (metric : ScaledMetric) (n k : ℕ) (all held : List AtomLine) (cell : Structure) → all ≡ held → n ≡ common_denominator (positions all) → k ≡ common_denominator (moments all) → cell ≡ filled metric n k all held → cell ≡ cell_with (whole_of metric all)
+pub filled_all : (kinds : List MomentKind) (metric : ScaledMetric) (n k : ℕ) (all held : List AtomLine) (cell : Structure) → all ≡ held → n ≡ common_denominator (positions all) → k ≡ common_denominator (moments all) → cell ≡ filled (get_or kinds 0 axial_vectors) metric n k all held → cell ≡ cell_with (whole_of kinds metric all)
 unfolding cell_with
-filled_all metric n k all held cell e f g view =
-    view ∙ ap (filled metric n k all) (sym e) ∙ ap (λ (m : ℕ). filled metric m k all all) f ∙ ap (λ (m : ℕ). filled metric (common_denominator (positions all)) m all all) g
+filled_all kinds metric n k all held cell e f g view =
+    let kind : MomentKind = get_or kinds 0 axial_vectors in
+    view ∙ ap (filled kind metric n k all) (sym e) ∙ ap (λ (m : ℕ). filled kind metric m k all all) f ∙ ap (λ (m : ℕ). filled kind metric (common_denominator (positions all)) m all all) g
 
 pub first_name : (b : AtomLine) → b.name ∷ [] ≡ names_of (b ∷ [])
 unfolding names_of
 first_name b = refl
+
+-- ---- the moments are of one kind
+
+none_scaled : (k : ℕ) → scaled k nothing ≡ pos 0
+none_scaled k = zero-*ℤ (pos (k / 1))
+
+-- the moment of an atom of scalars is a scalar
+pub scalar_moment : (kind : MomentKind) (k : ℕ) (a : AtomLine) → (kind.vector ≡ false → IsOfScalar a) → IsOfKind kind (moment_of k a)
+scalar_moment kind k a h scalar =
+    let both = h scalar in
+    (ap (scaled k) both.0 ∙ none_scaled k, ap (scaled k) both.1 ∙ none_scaled k)
+
+pub kind_added : (kind other : MomentKind) (k l : ℕ) (a : AtomLine) (m : Triple) → other ≡ kind → l ≡ k → m ≡ moment_of l a → IsOfKind kind (moment_of k a) → IsOfKind other m
+kind_added kind other k l a m e f g h =
+    subst (λ (x : MomentKind). IsOfKind x m) (sym e) (subst (IsOfKind kind) (sym (g ∙ ap (λ (j : ℕ). moment_of j a) f)) h)
+
+-- one of the atoms
+pub kind_at : (kind : MomentKind) (xs : List CodeAtom) (i : ℕ) (x : CodeAtom) → i < length xs → get_or xs i x ≡ x → AreOfKind kind (map atom_view xs) → kind.vector ≡ false → IsOfScalar (atom_view x)
+kind_at kind [] i x h e are = absurd (omega arith)
+kind_at kind (y ∷ ys) zero x h e are = subst (λ (z : CodeAtom). kind.vector ≡ false → IsOfScalar (atom_view z)) e are.0
+kind_at kind (y ∷ ys) (suc i) x h e are = kind_at kind ys i x (omega arith) e are.1

@@ -1,19 +1,20 @@
 -- What texts spell, and why others are refused.
-use Rattle.std.specs.Prelude.{◌≡◌, ℕ, List, [], ◌∷◌, ◌++◌, map, Some, None, pos, negsuc, length, replicate, codes}
+use Rattle.std.specs.Prelude.{◌≡◌, ℕ, Bool, true, false, List, [], ◌∷◌, ◌++◌, map, Some, None, pos, negsuc, length, replicate, codes}
 use Rattle.std.specs.List.{flat_map}
 use Rattle.std.proofs.Common.{refl}
 use Rattle.numbers.specs.Gcd.{gcd, lcm}
 use Rattle.numbers.specs.Fraction.{lowest}
 use Rattle.numbers.specs.Residue.{residue}
+use Rattle.crystal_spec.specs.declared.MomentKind.{MomentKind}
 use Rattle.crystal_spec.specs.Moments.{axial_vectors}
-use Rattle.cell_text.specs.declared.fault.CellFault.TheVariants.{NotMagcell, BadByte, BadLine, BadNumber, NumberRange, ZeroDenominator, MetricTwice, MetricMissing, MetricRange, NotPositive, PositionRange, MomentRange, TooManyAtoms, NoAtom, SamePlace, NoEnd, AfterEnd}
+use Rattle.cell_text.specs.declared.fault.CellFault.TheVariants.{NotMagcell, BadByte, BadLine, BadNumber, NumberRange, ZeroDenominator, MetricTwice, KindTwice, KindLate, MetricMissing, MetricRange, NotPositive, PositionRange, MomentRange, TooManyAtoms, NoAtom, SamePlace, NoEnd, AfterEnd}
 use Rattle.crystal_spec.specs.Crystals.{Structure}
 use Rattle.plain_text.specs.Text.{lines, has_bad_byte}
-use Rattle.cell_text.specs.declared.version.Version.TheVariants.{One}
-use Rattle.cell_text.specs.Lines.{skipped, metric_entry, atom_entry, end_entry, other_entry, word_fault, version_of, entry_of}
+use Rattle.cell_text.specs.declared.version.Version.TheVariants.{One, Two}
+use Rattle.cell_text.specs.Lines.{skipped, metric_entry, atom_entry, end_entry, kind_entry, other_entry, word_fault, version_of, entry_of}
 use Rattle.plain_text.specs.NumberWords.{number_fault, number_value}
 use Rattle.cell_text.specs.Entries.{state_after, is_metric_in_range, is_positive, are_positions_in_range, are_moments_in_range, positions, moments}
-use Rattle.cell_text.specs.Rules.{cell_fault, heading_fault, later_fault, metric_fault, atom_fault, place_fault, end_fault, same_place, fault_after}
+use Rattle.cell_text.specs.Rules.{cell_fault, heading_fault, later_fault, metric_fault, kind_fault, atom_fault, place_fault, end_fault, same_place, fault_after}
 use Rattle.cell_text.specs.CellFile.{names_of, cell_with, cell_of}
 
 -- the lines, each ended by LF
@@ -144,7 +145,7 @@ order : cell_fault (text_of (codes "magcell 1" ∷ []) ++ codes "metric 1/0 x 1 
 unfolding cell_fault heading_fault later_fault metric_fault atom_fault place_fault end_fault state_after version_of entry_of has_bad_byte is_metric_in_range is_positive are_positions_in_range are_moments_in_range positions moments same_place gcd lcm word_fault number_fault number_value lowest
 order = refl
 
-other_version : cell_fault (text_of (codes "magcell 2" ∷ [])) ≡ Some (1, NotMagcell)
+other_version : cell_fault (text_of (codes "magcell 3" ∷ [])) ≡ Some (1, NotMagcell)
 unfolding cell_fault heading_fault later_fault metric_fault atom_fault place_fault end_fault state_after version_of entry_of has_bad_byte is_metric_in_range is_positive are_positions_in_range are_moments_in_range positions moments same_place gcd lcm word_fault number_fault number_value lowest
 other_version = refl
 
@@ -281,23 +282,94 @@ skipped_lines : map (entry_of One) (codes "" ∷ codes " \t" ∷ codes "# metric
 unfolding entry_of
 skipped_lines = refl
 
-told_lines : map (entry_of One) (codes "metric 1 x 1 0 0 0/0" ∷ codes "atom A 1/2 - 0" ∷ codes "\tatom A 0 0 0  m 0 1" ∷ codes "end " ∷ [])
+told_lines : map (entry_of One) (codes "metric 1 x 1 0 0 0/0" ∷ codes "atom A 1/2 - 0" ∷ codes "\tatom A 0 0 0  m 0 1" ∷ codes "atom A 0 0 0 s" ∷ codes "end " ∷ [])
     ≡ metric_entry (codes "1" ∷ codes "x" ∷ codes "1" ∷ codes "0" ∷ codes "0" ∷ codes "0/0" ∷ [])
     ∷ atom_entry (codes "A") (codes "1/2" ∷ codes "-" ∷ codes "0" ∷ [])
     ∷ atom_entry (codes "A") (codes "0" ∷ codes "0" ∷ codes "0" ∷ codes "m" ∷ codes "0" ∷ codes "1" ∷ [])
+    ∷ atom_entry (codes "A") (codes "0" ∷ codes "0" ∷ codes "0" ∷ codes "s" ∷ [])
     ∷ end_entry
     ∷ []
 unfolding entry_of
 told_lines = refl
 
-lines_of_no_form : map (entry_of One) (codes "metric 1 1 1 0 0" ∷ codes "metric" ∷ codes "atom" ∷ codes "atom A" ∷ codes "atom A 0 0 0 0" ∷ codes "atom 1 0 0 0" ∷ codes "end end" ∷ codes "kind vector axial" ∷ codes "Metric 1 1 1 0 0 0" ∷ [])
+lines_of_no_form : map (entry_of One) (codes "metric 1 1 1 0 0" ∷ codes "metric" ∷ codes "atom" ∷ codes "atom A" ∷ codes "atom A 0 0 0 0 0" ∷ codes "atom 1 0 0 0" ∷ codes "end end" ∷ codes "kind vector axial" ∷ codes "Metric 1 1 1 0 0 0" ∷ [])
     ≡ other_entry ∷ other_entry ∷ other_entry ∷ other_entry ∷ other_entry ∷ other_entry ∷ other_entry ∷ other_entry ∷ other_entry ∷ []
 unfolding entry_of
 lines_of_no_form = refl
 
-versions : map version_of (codes "magcell 1" ∷ codes " magcell\t1 " ∷ codes "magcell 2" ∷ codes "magcell 1 1" ∷ codes "magcell1" ∷ codes "# magcell 1" ∷ codes "" ∷ []) ≡ Some One ∷ Some One ∷ None ∷ None ∷ None ∷ None ∷ None ∷ []
+versions : map version_of (codes "magcell 1" ∷ codes " magcell\t1 " ∷ codes "magcell 2" ∷ codes "magcell 3" ∷ codes "magcell 1 1" ∷ codes "magcell1" ∷ codes "# magcell 1" ∷ codes "" ∷ []) ≡ Some One ∷ Some One ∷ Some Two ∷ None ∷ None ∷ None ∷ None ∷ None ∷ []
 unfolding version_of
 versions = refl
+
+-- ---- kinds of moments
+
+abbrev kind : Bool → Bool → MomentKind
+kind vector axial = record { vector = vector; axial = axial }
+
+kind_lines : map (entry_of Two) (codes "kind scalar" ∷ codes "kind vector" ∷ codes "kind scalar axial" ∷ codes " kind\tscalar plain " ∷ codes "kind vector axial" ∷ codes "kind vector plain" ∷ [])
+    ≡ kind_entry (kind false false) ∷ kind_entry (kind true true) ∷ kind_entry (kind false true) ∷ kind_entry (kind false false) ∷ kind_entry (kind true true) ∷ kind_entry (kind true false) ∷ []
+unfolding entry_of
+kind_lines = refl
+
+kind_lines_of_no_form : map (entry_of Two) (codes "kind" ∷ codes "kind axial" ∷ codes "kind scalar vector" ∷ codes "kind scalar axial axial" ∷ codes "kind Scalar" ∷ codes "kinds scalar" ∷ [])
+    ≡ other_entry ∷ other_entry ∷ other_entry ∷ other_entry ∷ other_entry ∷ other_entry ∷ []
+unfolding entry_of
+kind_lines_of_no_form = refl
+
+kind_in_version_1 : cell_fault (text_of (codes "magcell 1" ∷ codes "kind vector" ∷ [])) ≡ Some (2, BadLine)
+unfolding cell_fault heading_fault later_fault metric_fault kind_fault atom_fault place_fault end_fault state_after version_of entry_of has_bad_byte is_metric_in_range is_positive are_positions_in_range are_moments_in_range positions moments same_place gcd lcm word_fault number_fault number_value lowest
+kind_in_version_1 = refl
+
+kind_twice : cell_fault (text_of (codes "magcell 2" ∷ codes "kind scalar" ∷ codes "kind scalar" ∷ [])) ≡ Some (3, KindTwice)
+unfolding cell_fault heading_fault later_fault metric_fault kind_fault atom_fault place_fault end_fault state_after version_of entry_of has_bad_byte is_metric_in_range is_positive are_positions_in_range are_moments_in_range positions moments same_place gcd lcm word_fault number_fault number_value lowest
+kind_twice = refl
+
+-- behind an atom too
+kind_twice_and_late : cell_fault (text_of (codes "magcell 2" ∷ codes "kind scalar" ∷ codes "atom A 0 0 0" ∷ codes "kind vector" ∷ [])) ≡ Some (4, KindTwice)
+unfolding cell_fault heading_fault later_fault metric_fault kind_fault atom_fault place_fault end_fault state_after version_of entry_of has_bad_byte is_metric_in_range is_positive are_positions_in_range are_moments_in_range positions moments same_place gcd lcm word_fault number_fault number_value lowest
+kind_twice_and_late = refl
+
+kind_late : cell_fault (text_of (codes "magcell 2" ∷ codes "metric 1 1 1 0 0 0" ∷ codes "atom A 0 0 0" ∷ codes "kind scalar" ∷ [])) ≡ Some (4, KindLate)
+unfolding cell_fault heading_fault later_fault metric_fault kind_fault atom_fault place_fault end_fault state_after version_of entry_of has_bad_byte is_metric_in_range is_positive are_positions_in_range are_moments_in_range positions moments same_place gcd lcm word_fault number_fault number_value lowest
+kind_late = refl
+
+scalar_of_three_numbers : cell_fault (text_of (codes "magcell 2" ∷ codes "kind scalar" ∷ codes "metric 1 1 1 0 0 0" ∷ codes "atom A 0 0 0 0 0 1" ∷ [])) ≡ Some (4, BadLine)
+unfolding cell_fault heading_fault later_fault metric_fault kind_fault atom_fault place_fault end_fault state_after version_of entry_of has_bad_byte is_metric_in_range is_positive are_positions_in_range are_moments_in_range positions moments same_place gcd lcm word_fault number_fault number_value lowest
+scalar_of_three_numbers = refl
+
+vector_of_one_number : cell_fault (text_of (codes "magcell 2" ∷ codes "metric 1 1 1 0 0 0" ∷ codes "atom A 0 0 0 1" ∷ [])) ≡ Some (3, BadLine)
+unfolding cell_fault heading_fault later_fault metric_fault kind_fault atom_fault place_fault end_fault state_after version_of entry_of has_bad_byte is_metric_in_range is_positive are_positions_in_range are_moments_in_range positions moments same_place gcd lcm word_fault number_fault number_value lowest
+vector_of_one_number = refl
+
+vector_of_one_number_in_version_1 : cell_fault (text_of (codes "magcell 1" ∷ codes "metric 1 1 1 0 0 0" ∷ codes "atom A 0 0 0 x" ∷ [])) ≡ Some (3, BadLine)
+unfolding cell_fault heading_fault later_fault metric_fault kind_fault atom_fault place_fault end_fault state_after version_of entry_of has_bad_byte is_metric_in_range is_positive are_positions_in_range are_moments_in_range positions moments same_place gcd lcm word_fault number_fault number_value lowest
+vector_of_one_number_in_version_1 = refl
+
+point_in_version_2 : cell_fault (text_of (codes "magcell 2" ∷ codes "metric 1 1 1 0 0 0" ∷ codes "atom A 0.5 0 0" ∷ [])) ≡ Some (3, BadNumber)
+unfolding cell_fault heading_fault later_fault metric_fault kind_fault atom_fault place_fault end_fault state_after version_of entry_of has_bad_byte is_metric_in_range is_positive are_positions_in_range are_moments_in_range positions moments same_place gcd lcm word_fault number_fault number_value lowest
+point_in_version_2 = refl
+
+-- the scalars 1, -1/2 and 0
+abbrev scalars : List (List ℕ)
+scalars = codes "magcell 2" ∷ codes "kind scalar axial" ∷ codes "atom A 0 0 0 1" ∷ codes "atom A 0 0 1/2 -1/2" ∷ codes "atom A 1/2 0 0" ∷ codes "metric 1 1 4 0 0 0" ∷ codes "end" ∷ []
+
+scalars_are_read : (cell_fault (text_of scalars) ≡ None)
+    × (cell_of (lines (text_of scalars)) ≡ record { names = (65 ∷ []) ∷ []; scale = pos 1; metric = record { a11 = pos 1; a12 = pos 0; a13 = pos 0; a21 = pos 0; a22 = pos 1; a23 = pos 0; a31 = pos 0; a32 = pos 0; a33 = pos 4 }; n = 2; k = 2; kind = kind false true; sites = record { species = 0; position = record { x = pos 0; y = pos 0; z = pos 0 }; moment = record { x = pos 2; y = pos 0; z = pos 0 } } ∷ record { species = 0; position = record { x = pos 0; y = pos 0; z = pos 1 }; moment = record { x = negsuc 0; y = pos 0; z = pos 0 } } ∷ record { species = 0; position = record { x = pos 1; y = pos 0; z = pos 0 }; moment = record { x = pos 0; y = pos 0; z = pos 0 } } ∷ [] })
+unfolding cell_fault heading_fault later_fault metric_fault kind_fault atom_fault place_fault end_fault state_after version_of entry_of has_bad_byte is_metric_in_range is_positive are_positions_in_range are_moments_in_range positions moments same_place gcd lcm word_fault number_fault number_value lowest names_of cell_with residue
+scalars_are_read = (refl, refl)
+
+-- a kind line behind the metric line
+abbrev plain_vectors : List (List ℕ)
+plain_vectors = codes "magcell 2" ∷ codes "metric 1 1 4 0 0 0" ∷ codes "kind vector plain" ∷ codes "atom A 0 0 0 0 0 1" ∷ codes "end" ∷ []
+
+plain_vectors_are_read : (cell_fault (text_of plain_vectors) ≡ None) × ((cell_of (lines (text_of plain_vectors))).kind ≡ kind true false)
+unfolding cell_fault heading_fault later_fault metric_fault kind_fault atom_fault place_fault end_fault state_after version_of entry_of has_bad_byte is_metric_in_range is_positive are_positions_in_range are_moments_in_range positions moments same_place gcd lcm word_fault number_fault number_value lowest names_of cell_with residue
+plain_vectors_are_read = (refl, refl)
+
+-- version 2 without a kind line
+vectors_by_default : (cell_of (lines (text_of (codes "magcell 2" ∷ codes "metric 1 1 4 0 0 0" ∷ codes "atom A 0 0 0 0 0 1" ∷ codes "end" ∷ [])))).kind ≡ axial_vectors
+unfolding cell_fault heading_fault later_fault metric_fault kind_fault atom_fault place_fault end_fault state_after version_of entry_of has_bad_byte is_metric_in_range is_positive are_positions_in_range are_moments_in_range positions moments same_place gcd lcm word_fault number_fault number_value lowest names_of cell_with residue
+vectors_by_default = refl
 
 -- the 513th atom line
 too_many : fault_after (codes "magcell 1" ∷ replicate 512 (codes "atom A 0 0 0")) (codes "atom A 0 0 0") ≡ Some TooManyAtoms

@@ -5,12 +5,12 @@ use Rattle.std.proofs.Common.{◌≡◌, ℕ, zero, suc, ◌+◌, ◌<◌, Bool,
 use Rattle.std.specs.Prelude.{not, ◌==◌, nat_le}
 use Rattle.cell_text.specs.declared.version.Version.{Version}
 use Rattle.cell_text.specs.declared.fault.CellFault.{CellFault}
-use Rattle.cell_text.specs.declared.fault.CellFault.TheVariants.{BadByte, MetricTwice, MetricMissing, MetricRange, NotPositive, PositionRange, MomentRange, TooManyAtoms, NoAtom, NoEnd, AfterEnd}
+use Rattle.cell_text.specs.declared.fault.CellFault.TheVariants.{BadByte, BadLine, MetricTwice, MetricMissing, MetricRange, NotPositive, PositionRange, MomentRange, TooManyAtoms, NoAtom, NoEnd, AfterEnd}
 use Rattle.plain_text.specs.Text.{lines, has_bad_byte}
 use Rattle.plain_text.specs.FirstFaults.{when, first_of}
-use Rattle.cell_text.specs.Lines.{word_fault, Entry, skipped, metric_entry, atom_entry, end_entry, other_entry, entry_of}
-use Rattle.cell_text.specs.Entries.{AtomLine, Contents, State, with_entry, next_state, with_line, state_after, contents, values, atom_of, metric_of, is_metric_in_range, is_positive, are_positions_in_range, are_moments_in_range}
-use Rattle.cell_text.specs.Rules.{same_place, metric_fault, place_fault, atom_fault, end_fault, entry_fault, later_fault, judged_by, judged, fault_after, fault_at_end, numbered, first_fault, cell_fault}
+use Rattle.cell_text.specs.Lines.{word_fault, Entry, skipped, metric_entry, atom_entry, end_entry, kind_entry, other_entry, entry_of}
+use Rattle.cell_text.specs.Entries.{AtomLine, Contents, State, with_entry, next_state, with_line, state_after, contents, values, atom_of, metric_of, kind_of, is_metric_in_range, is_positive, are_positions_in_range, are_moments_in_range}
+use Rattle.cell_text.specs.Rules.{same_place, metric_fault, place_fault, are_numbers_of, atom_fault, end_fault, entry_fault, later_fault, judged_by, judged, fault_after, fault_at_end, numbered, first_fault, cell_fault}
 use Rattle.cell_text.proofs.Judging.{IsEntry, entry_is, state_after-more}
 
 -- where there is no first fault, there is none
@@ -44,7 +44,8 @@ place_faults held a =
 
 abbrev atom_faults : Contents → List ℕ → List (List ℕ) → List (Option CellFault)
 atom_faults held name ws =
-    when (nat_le 512 (length held.atoms)) TooManyAtoms
+    when (not (are_numbers_of (kind_of held) (length ws))) BadLine
+    ∷ when (nat_le 512 (length held.atoms)) TooManyAtoms
     ∷ first_of (map word_fault ws)
     ∷ place_fault held (atom_of name (values ws))
     ∷ []
@@ -65,14 +66,14 @@ metric_fits held ws e = kept (is_metric_in_range (values ws)) MetricRange (all_n
 -- the words of an atom line are numbers
 pub atom_numbers : (held : Contents) (name : List ℕ) (ws : List (List ℕ)) → atom_fault held name ws ≡ None → first_of (map word_fault ws) ≡ None
 unfolding atom_fault
-atom_numbers held name ws e = all_none (atom_faults held name ws) 1 e
+atom_numbers held name ws e = all_none (atom_faults held name ws) 2 e
 
 -- moments are within their range with its moment
 pub moments_fit : (held : Contents) (name : List ℕ) (ws : List (List ℕ)) → atom_fault held name ws ≡ None → are_moments_in_range (held.atoms ++ atom_of name (values ws) ∷ []) ≡ true
 unfolding atom_fault place_fault
 moments_fit held name ws e =
     let a = atom_of name (values ws) in
-    kept (are_moments_in_range (held.atoms ++ a ∷ [])) MomentRange (all_none (place_faults held a) 1 (all_none (atom_faults held name ws) 2 e))
+    kept (are_moments_in_range (held.atoms ++ a ∷ [])) MomentRange (all_none (place_faults held a) 1 (all_none (atom_faults held name ws) 3 e))
 
 not_missing : (n : ℕ) → when (n == 0) MetricMissing ≡ None → 0 < n
 not_missing zero e = absurd cc
@@ -93,6 +94,7 @@ later_passed held line skipped e = refl
 later_passed held line (metric_entry ws) e = all_none (later_faults held line (metric_entry ws)) 2 e
 later_passed held line (atom_entry name ws) e = all_none (later_faults held line (atom_entry name ws)) 2 e
 later_passed held line end_entry e = all_none (later_faults held line end_entry) 2 e
+later_passed held line (kind_entry kind) e = all_none (later_faults held line (kind_entry kind)) 2 e
 later_passed held line other_entry e = all_none (later_faults held line other_entry) 2 e
 
 -- ---- all lines

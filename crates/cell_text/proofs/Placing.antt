@@ -1,23 +1,25 @@
 -- One more atom for the reader.
-use Rattle.std.proofs.Common.{◌≡◌, ℕ, ◌<◌, ◌≤◌, Bool, true, false, [], ◌∷◌, ◌++◌, map, refl, sym, ap, subst, ◌∙◌, Option, Some, None}
+use Rattle.std.proofs.Common.{◌≡◌, ℕ, ◌<◌, ◌≤◌, Bool, true, false, [], ◌∷◌, ◌++◌, map, refl, sym, ap, subst, ◌∙◌, arith, length, Option, Some, None}
 use Rattle.cell_text.specs.declared.atom_line.AtomLine.{AtomLine as CodeAtom}
 use Rattle.cell_text.specs.declared.fault.CellFault.{CellFault}
 use Rattle.cell_text.specs.declared.fault.CellFault.TheVariants.{PositionRange, MomentRange, SamePlace}
 use Rattle.cell_text.specs.declared.reader.Reader.TheInside.{Inside}
 use Rattle.std.proofs.Common.{List}
-use Rattle.std.specs.Prelude.{not, ◌+◌}
+use Rattle.std.specs.Prelude.{not, ◌+◌, ◌⊎◌, ◌||◌, ◌==◌, if◌then◌else◌}
 use Rattle.std.specs.List.{list_all}
-use Rattle.std.proofs.lemmas.Bool.{and_parts}
+use Rattle.std.proofs.Common.{inl, inr}
+use Rattle.std.proofs.lemmas.Bool.{and_parts, or_cases, eqb-true}
 use Rattle.std.proofs.lemmas.List.{map-append}
 use Rattle.std.proofs.lemmas.List.Folds.{list_all-append}
+use Rattle.crystal_spec.specs.declared.MomentKind.{MomentKind}
 use Rattle.plain_text.specs.NumberWords.{common_denominator}
 use Rattle.plain_text.specs.FirstFaults.{when, or_else}
 use Rattle.numbers.specs.Gcd.{lcm}
-use Rattle.cell_text.specs.Entries.{AtomLine, State, moments, positions, is_same_place}
-use Rattle.cell_text.specs.Rules.{same_place, same_place_from, place_fault}
-use Rattle.cell_text.specs.Views.{atom_view, AreApart}
+use Rattle.cell_text.specs.Entries.{AtomLine, State, kind_of, values, atom_of, moments, positions, is_same_place}
+use Rattle.cell_text.specs.Rules.{same_place, same_place_from, place_fault, are_numbers_of}
+use Rattle.cell_text.specs.Views.{atom_view, AreApart, IsOfScalar, AreOfKind}
 use Rattle.plain_text.specs.Views.{Grown}
-use Rattle.cell_text.specs.Readers.{state_of, IsReader}
+use Rattle.cell_text.specs.Readers.{state_of, kind_or_default, IsReader}
 use Rattle.cell_text.proofs.Atoms.{is_billion_by, positions_more, moments_more, positions_fit, positions_past, moments_are, moments_past, faults-position, faults-moment, faults-place}
 
 -- the reader's state, and an atom that fits with the positions so far
@@ -90,3 +92,38 @@ pub placed_apart : (xs ys : List CodeAtom) (a : CodeAtom) → AreApart (map atom
 unfolding same_place
 placed_apart xs ys a h e same =
     subst AreApart (sym (ap (map atom_view) same ∙ map-append atom_view xs (a ∷ []))) (apart_more (map atom_view xs) (atom_view a) h (none_same 1 _ (map atom_view xs) (atom_view a) e))
+
+-- ---- moments of one kind
+
+pub kind_more : (kind : MomentKind) (xs : List AtomLine) (b : AtomLine) → AreOfKind kind xs → (kind.vector ≡ false → IsOfScalar b) → AreOfKind kind (xs ++ b ∷ [])
+kind_more kind [] b h e = (e, tt)
+kind_more kind (a ∷ xs) b h e = (h.0, kind_more kind xs b h.1 e)
+
+pub placed_kind : (r : Inside) (s : State) (ys : List CodeAtom) (a : CodeAtom) → state_of r ≡ s → AreOfKind (kind_or_default r.kind) (map atom_view r.atoms.items) → ((kind_of s.held).vector ≡ false → IsOfScalar (atom_view a)) → ys ≡ r.atoms.items ++ a ∷ [] → AreOfKind (kind_or_default r.kind) (map atom_view ys)
+placed_kind r s ys a v h e same =
+    let here : (kind_or_default r.kind).vector ≡ false → IsOfScalar (atom_view a) = subst (λ (t : State). (kind_of t.held).vector ≡ false → IsOfScalar (atom_view a)) (sym v) e in
+    subst (AreOfKind (kind_or_default r.kind)) (sym (ap (map atom_view) same ∙ map-append atom_view r.atoms.items (a ∷ []))) (kind_more (kind_or_default r.kind) (map atom_view r.atoms.items) (atom_view a) h here)
+
+-- where there is no atom, all are
+pub none_of_kind : (kind : MomentKind) (xs : List CodeAtom) → length xs ≤ 0 → AreOfKind kind (map atom_view xs)
+none_of_kind kind [] h = tt
+none_of_kind kind (x ∷ xs) h = absurd (omega arith)
+
+-- numbers of an atom of scalars
+few_numbers : (kind : MomentKind) (count : ℕ) → are_numbers_of kind count ≡ true → kind.vector ≡ false → count ≤ 4
+few_numbers kind count e scalar = by (or_cases (count == 3) (count == 4) (subst (λ (v : Bool). (count == 3 || count == (if v then 6 else 4)) ≡ true) scalar e))
+  where
+    by : (count == 3) ≡ true ⊎ (count == 4) ≡ true → count ≤ 4
+    by (inl a) = omega (arith, eqb-true count 3 a)
+    by (inr b) = omega (arith, eqb-true count 4 b)
+
+pub scalar_numbers : (kind : MomentKind) (name : List ℕ) (ws : List (List ℕ)) → are_numbers_of kind (length ws) ≡ true → kind.vector ≡ false → IsOfScalar (atom_of name (values ws))
+scalar_numbers kind name ws e scalar = by ws (few_numbers kind (length ws) e scalar)
+  where
+    by : (us : List (List ℕ)) → length us ≤ 4 → IsOfScalar (atom_of name (values us))
+    by [] h = (refl, refl)
+    by (t ∷ []) h = (refl, refl)
+    by (t ∷ u ∷ []) h = (refl, refl)
+    by (t ∷ u ∷ v ∷ []) h = (refl, refl)
+    by (t ∷ u ∷ v ∷ x ∷ []) h = (refl, refl)
+    by (t ∷ u ∷ v ∷ x ∷ y ∷ us) h = absurd (omega arith)

@@ -1,22 +1,21 @@
--- The cell that a cell file `magcell 1` spells.
+-- The cell that a cell file spells.
 --   names_of as     the names of the atoms, in the order of their first use
 --   number_of ns w  which of the names it is, from 0
 --   site_of ns n k  the atom of a cell, with its position in units of 1/n modulo n and its moment in units of 1/k
 --   cell_with held  the cell of these contents: scale, n and k are the least common denominators of the metric tensor, of
---                   all positions and of all moments, which are axial vectors
+--                   all positions and of all moments
 --   Spells text c   no line of the text breaks a rule, and c is the cell of its lines
 use Rattle.std.specs.Prelude.{◌≡◌, ℕ, ℤ, pos, List, [], ◌∷◌, ◌++◌, map, get_or, if◌then◌else◌}
 use Rattle.std.specs.List.{fold, list_any, position_or_len}
 use Rattle.std.specs.declared.option.Option.TheVariants.{None}
 use Rattle.numbers.specs.Residue.{residue}
 use Rattle.crystal_spec.specs.Matrices.{Triple}
-use Rattle.crystal_spec.specs.Moments.{axial_vectors}
 use Rattle.crystal_spec.specs.Crystals.{Site, Structure}
 use Rattle.plain_text.specs.Text.{lines}
 use Rattle.numbers.specs.Fraction.{Fraction}
 use Rattle.plain_text.specs.NumberWords.{common_denominator, scaled}
 use Rattle.cell_text.specs.Lines.{same_word}
-use Rattle.cell_text.specs.Entries.{AtomLine, ScaledMetric, Contents, symmetric, contents, positions, moments}
+use Rattle.cell_text.specs.Entries.{AtomLine, ScaledMetric, Contents, symmetric, contents, kind_of, positions, moments}
 use Rattle.cell_text.specs.Rules.{cell_fault}
 
 -- the name at the end, where it is not among them
@@ -53,7 +52,7 @@ cell_with held = record {
   metric = (get_or held.metrics 0 no_metric).entries;
   n = common_denominator (positions held.atoms);
   k = common_denominator (moments held.atoms);
-  kind = axial_vectors;
+  kind = kind_of held;
   sites = map (site_of (names_of held.atoms) (common_denominator (positions held.atoms)) (common_denominator (moments held.atoms))) held.atoms;
 }
 

@@ -1,7 +1,8 @@
--- What the lines of a cell file say: atoms and a metric tensor, and their ranges.
+-- What the lines of a cell file say: atoms, a metric tensor and a kind of moments, and their ranges.
 --   AtomLine, atom_of name fs     the name, position and moment of an atom line with these numbers
 --   ScaledMetric, metric_of fs    the metric tensor of a metric line with these numbers, with its least scale
---   Contents, with_entry held e   the metric tensors and atoms of some lines, and whether `end` is among them; one line more
+--   Contents, with_entry held e   the kinds, metric tensors and atoms of some lines, and whether `end` is among them; one line more
+--   kind_of held                  the kind of the moments: axial vectors where no line says it
 --   State, state_after ls         what is known behind some lines: the version that the first one tells, and the contents
 --   are_positions_in_range as, are_moments_in_range as    the common denominators are within 10^6, scaled moments within 10^9
 --   is_same_place a b             the two positions are equal modulo 1
@@ -9,11 +10,13 @@ use Rattle.std.specs.Prelude.{ℕ, ℤ, pos, ◌*ℤ◌, ◌-ℤ◌, Bool, true,
 use Rattle.std.specs.List.{fold, list_all, flat_map}
 use Rattle.std.specs.declared.option.Option.{Option}
 use Rattle.std.specs.declared.option.Option.TheVariants.{Some, None}
+use Rattle.crystal_spec.specs.declared.MomentKind.{MomentKind}
 use Rattle.crystal_spec.specs.Matrices.{Matrix, determinant}
+use Rattle.crystal_spec.specs.Moments.{axial_vectors}
 use Rattle.numbers.specs.Fraction.{Fraction, fraction}
 use Rattle.plain_text.specs.NumberWords.{number_value, common_denominator, scaled, is_same_modulo_1}
 use Rattle.cell_text.specs.declared.version.Version.{Version}
-use Rattle.cell_text.specs.Lines.{Entry, skipped, metric_entry, atom_entry, end_entry, other_entry, version_of, entry_of}
+use Rattle.cell_text.specs.Lines.{Entry, skipped, metric_entry, atom_entry, end_entry, kind_entry, other_entry, version_of, entry_of}
 
 -- the numbers that words spell
 abbrev pub values : List (List ℕ) → List Fraction
@@ -26,7 +29,7 @@ nothing = fraction (pos 0) (pos 1)
 abbrev pub number_at : List Fraction → ℕ → Fraction
 number_at fs i = get_or fs i nothing
 
--- An atom: its name, its position in units of the axes, and its moment along the axes.
+-- An atom: its name, its position in units of the axes, and its moment along the axes. The moment of a scalar s is s 0 0.
 pub record AtomLine : Type 0 where
   pub name : List ℕ
   pub x : Fraction
@@ -36,7 +39,7 @@ pub record AtomLine : Type 0 where
   pub mb : Fraction
   pub mc : Fraction
 
--- the atom of this name with the numbers x y z ma mb mc; of x y z alone, with the moment 0 0 0
+-- the atom of this name with the numbers x y z ma mb mc; of x y z s, with the moment s 0 0; of x y z alone, with 0 0 0
 abbrev pub atom_of : List ℕ → List Fraction → AtomLine
 atom_of name fs = record { name = name; x = number_at fs 0; y = number_at fs 1; z = number_at fs 2; ma = number_at fs 3; mb = number_at fs 4; mc = number_at fs 5 }
 
@@ -77,18 +80,25 @@ is_positive g = int_lt (pos 0) g.a11 && int_lt (pos 0) (g.a11 *ℤ g.a22 -ℤ g.
 
 -- what stands in some lines
 pub record Contents : Type 0 where
+  pub kinds : List MomentKind
   pub metrics : List ScaledMetric
   pub atoms : List AtomLine
   pub ended : Bool
 
 abbrev pub with_metric : Contents → ScaledMetric → Contents
-with_metric held m = record { metrics = held.metrics ++ m ∷ []; atoms = held.atoms; ended = held.ended }
+with_metric held m = record { kinds = held.kinds; metrics = held.metrics ++ m ∷ []; atoms = held.atoms; ended = held.ended }
 
 abbrev pub with_atom : Contents → AtomLine → Contents
-with_atom held a = record { metrics = held.metrics; atoms = held.atoms ++ a ∷ []; ended = held.ended }
+with_atom held a = record { kinds = held.kinds; metrics = held.metrics; atoms = held.atoms ++ a ∷ []; ended = held.ended }
 
 abbrev pub with_end : Contents → Contents
-with_end held = record { metrics = held.metrics; atoms = held.atoms; ended = true }
+with_end held = record { kinds = held.kinds; metrics = held.metrics; atoms = held.atoms; ended = true }
+
+abbrev pub with_kind : Contents → MomentKind → Contents
+with_kind held kind = record { kinds = held.kinds ++ kind ∷ []; metrics = held.metrics; atoms = held.atoms; ended = held.ended }
+
+abbrev pub kind_of : Contents → MomentKind
+kind_of held = get_or held.kinds 0 axial_vectors
 
 -- the contents with one line more
 abbrev pub with_entry : Contents → Entry → Contents
@@ -96,6 +106,7 @@ with_entry held skipped = held
 with_entry held (metric_entry ws) = with_metric held (metric_of (values ws))
 with_entry held (atom_entry name ws) = with_atom held (atom_of name (values ws))
 with_entry held end_entry = with_end held
+with_entry held (kind_entry kind) = with_kind held kind
 with_entry held other_entry = held
 
 -- what is known behind some lines
@@ -108,7 +119,7 @@ state_with version held = record { version = version; held = held }
 
 -- behind no line
 abbrev pub start : State
-start = record { version = None; held = record { metrics = []; atoms = []; ended = false } }
+start = record { version = None; held = record { kinds = []; metrics = []; atoms = []; ended = false } }
 
 -- The first line tells the version, and each later one is an entry of that version.
 abbrev pub next_state : Option Version → Contents → List ℕ → State

@@ -2,7 +2,7 @@
 --   with_site c a      the cell with one atom more, and its name where it is new
 --   filled held as     the cell of these contents with the first atoms alone
 use Rattle.std.specs.Prelude.{ℕ, pos, List, [], ◌∷◌, ◌++◌, map, true}
-use Rattle.crystal_spec.specs.Moments.{axial_vectors}
+use Rattle.crystal_spec.specs.declared.MomentKind.{MomentKind}
 use Rattle.crystal_spec.specs.Crystals.{Structure}
 use Rattle.cell_text.specs.Entries.{AtomLine, ScaledMetric, Contents}
 use Rattle.cell_text.specs.CellFile.{with_name, names_of, site_of}
@@ -11,17 +11,17 @@ abbrev pub with_site : Structure → AtomLine → Structure
 with_site c a = record c { names = with_name c.names a.name; sites = c.sites ++ site_of c.names c.n c.k a ∷ [] }
 
 -- the contents of a whole file
-abbrev pub whole_of : ScaledMetric → List AtomLine → Contents
-whole_of metric atoms = record { metrics = metric ∷ []; atoms = atoms; ended = true }
+abbrev pub whole_of : List MomentKind → ScaledMetric → List AtomLine → Contents
+whole_of kinds metric atoms = record { kinds = kinds; metrics = metric ∷ []; atoms = atoms; ended = true }
 
 -- the species are numbered as in the whole cell
-abbrev pub filled : ScaledMetric → ℕ → ℕ → List AtomLine → List AtomLine → Structure
-filled metric n k all held = record {
+abbrev pub filled : MomentKind → ScaledMetric → ℕ → ℕ → List AtomLine → List AtomLine → Structure
+filled kind metric n k all held = record {
   names = names_of held;
   scale = pos metric.scale;
   metric = metric.entries;
   n = n;
   k = k;
-  kind = axial_vectors;
+  kind = kind;
   sites = map (site_of (names_of all) n k) held;
 }

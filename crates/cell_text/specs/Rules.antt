@@ -1,22 +1,23 @@
--- The rules of the cell file `magcell 1`, and the first line that breaks one.
+-- The rules of a cell file, and the first line that breaks one.
 --   entry_fault held e     the first rule that an entry breaks behind lines with these contents
 --   fault_after before l   the first rule that the line l breaks behind the lines before it
 --   fault_at_end before    what is wrong where the text ends behind these lines
 --   cell_fault text        the first line that breaks a rule, counted from 1, and which rule
 --   Tells first e          the error e names this first fault
 -- On a line the rules are tried in the order in which they stand here.
-use Rattle.std.specs.Prelude.{◌≡◌, ⊤, ℕ, ◌+◌, Bool, true, false, not, is_none, ◌==◌, nat_le, List, [], ◌∷◌, ◌++◌, map, length, if◌then◌else◌}
+use Rattle.std.specs.Prelude.{◌≡◌, ⊤, ℕ, ◌+◌, Bool, true, false, not, is_none, ◌==◌, ◌||◌, nat_le, List, [], ◌∷◌, ◌++◌, map, length, if◌then◌else◌}
 use Rattle.std.specs.declared.option.Option.{Option}
 use Rattle.std.specs.declared.option.Option.TheVariants.{Some, None}
+use Rattle.crystal_spec.specs.declared.MomentKind.{MomentKind}
 use Rattle.cell_text.specs.declared.version.Version.{Version}
 use Rattle.cell_text.specs.declared.fault.CellFault.{CellFault}
 use Rattle.cell_text.specs.declared.fault.CellError.{CellError}
 use Rattle.cell_text.specs.declared.fault.CellError.TheVariants as answers
-use Rattle.cell_text.specs.declared.fault.CellFault.TheVariants.{NotMagcell, BadByte, BadLine, MetricTwice, MetricMissing, MetricRange, NotPositive, PositionRange, MomentRange, TooManyAtoms, NoAtom, SamePlace, NoEnd, AfterEnd}
+use Rattle.cell_text.specs.declared.fault.CellFault.TheVariants.{NotMagcell, BadByte, BadLine, MetricTwice, KindTwice, KindLate, MetricMissing, MetricRange, NotPositive, PositionRange, MomentRange, TooManyAtoms, NoAtom, SamePlace, NoEnd, AfterEnd}
 use Rattle.plain_text.specs.Text.{lines, has_bad_byte}
 use Rattle.plain_text.specs.FirstFaults.{when, or_else, first_of}
-use Rattle.cell_text.specs.Lines.{word_fault, version_of, Entry, skipped, metric_entry, atom_entry, end_entry, other_entry, entry_of}
-use Rattle.cell_text.specs.Entries.{AtomLine, Contents, State, values, atom_of, metric_of, state_after, contents, is_metric_in_range, is_positive, are_positions_in_range, are_moments_in_range, is_same_place}
+use Rattle.cell_text.specs.Lines.{word_fault, version_of, Entry, skipped, metric_entry, atom_entry, end_entry, kind_entry, other_entry, entry_of}
+use Rattle.cell_text.specs.Entries.{AtomLine, Contents, State, values, atom_of, metric_of, kind_of, state_after, contents, is_metric_in_range, is_positive, are_positions_in_range, are_moments_in_range, is_same_place}
 
 -- Atom number j stands at the position of one of these, which are numbered from i: the first such.
 abbrev pub same_place_from : ℕ → ℕ → List AtomLine → AtomLine → Option CellFault
@@ -51,10 +52,22 @@ place_fault before a = first_of
     ∷ same_place before.atoms a
     ∷ [])
 
+-- A kind line. It stands before all atoms.
+unfoldable pub kind_fault : Contents → Option CellFault
+kind_fault before = first_of
+    (when (not (length before.kinds == 0)) KindTwice
+    ∷ when (not (length before.atoms == 0)) KindLate
+    ∷ [])
+
+-- so many numbers are x y z, or x y z with a moment of this kind
+abbrev pub are_numbers_of : MomentKind → ℕ → Bool
+are_numbers_of kind count = count == 3 || count == (if kind.vector then 6 else 4)
+
 -- An atom line with this name and these words.
 unfoldable pub atom_fault : Contents → List ℕ → List (List ℕ) → Option CellFault
 atom_fault before name ws = first_of
-    (when (nat_le 512 (length before.atoms)) TooManyAtoms
+    (when (not (are_numbers_of (kind_of before) (length ws))) BadLine
+    ∷ when (nat_le 512 (length before.atoms)) TooManyAtoms
     ∷ first_of (map word_fault ws)
     ∷ place_fault before (atom_of name (values ws))
     ∷ [])
@@ -72,6 +85,7 @@ entry_fault before skipped = None
 entry_fault before (metric_entry ws) = metric_fault before ws
 entry_fault before (atom_entry name ws) = atom_fault before name ws
 entry_fault before end_entry = end_fault before
+entry_fault before (kind_entry kind) = kind_fault before
 entry_fault before other_entry = Some BadLine
 
 abbrev pub is_skipped : Entry → Bool
@@ -79,6 +93,7 @@ is_skipped skipped = true
 is_skipped (metric_entry ws) = false
 is_skipped (atom_entry name ws) = false
 is_skipped end_entry = false
+is_skipped (kind_entry kind) = false
 is_skipped other_entry = false
 
 -- A later line, which is this entry. One that is skipped breaks no rule.

@@ -3,13 +3,15 @@
 --   ReadsWords ws IsRead result    the result is read from these number words, or is the first rule that one of them breaks
 --   Judges fault result            the result is this fault, or the fault is none; memory may always want
 --   AreApart as                    no two of these atoms stand at one position
-use Rattle.std.specs.Prelude.{◌≡◌, ⊤, ℕ, true, not, List, [], ◌∷◌, ◌++◌, map, MatchResult}
+--   AreOfKind kind as              where moments are scalars, each of these is s 0 0
+use Rattle.std.specs.Prelude.{◌≡◌, ⊤, ℕ, true, false, not, List, [], ◌∷◌, ◌++◌, map, MatchResult}
 use Rattle.std.specs.List.{list_all}
 use Rattle.std.specs.declared.option.Option.{Option}
 use Rattle.std.specs.declared.option.Option.TheVariants.{Some, None}
 use Rattle.std.specs.declared.result.Result.{Result}
 use Rattle.std.specs.declared.result.Result.TheVariants.{Ok, Err}
 use Rattle.numbers.specs.Fraction.{Fraction}
+use Rattle.crystal_spec.specs.declared.MomentKind.{MomentKind}
 use Rattle.plain_text.specs.Views.{fraction_of}
 use Rattle.cell_text.specs.declared.fault.CellFault.{CellFault}
 use Rattle.cell_text.specs.declared.fault.CellError.{CellError}
@@ -18,12 +20,14 @@ use Rattle.cell_text.specs.declared.fault.LineError.{LineError}
 use Rattle.cell_text.specs.declared.fault.LineError.TheVariants as errors
 use Rattle.cell_text.specs.declared.three.ThreeWords.{ThreeWords}
 use Rattle.cell_text.specs.declared.three.ThreeNumbers.{ThreeNumbers}
+use Rattle.cell_text.specs.declared.three.MomentWords.{MomentWords}
+use Rattle.cell_text.specs.declared.three.MomentWords.TheVariants as moments
 use Rattle.cell_text.specs.declared.form.Form.{Form}
 use Rattle.cell_text.specs.declared.form.Form.TheVariants as forms
 use Rattle.cell_text.specs.declared.atom_line.AtomLine.{AtomLine as CodeAtom}
 use Rattle.plain_text.specs.FirstFaults.{first_of}
-use Rattle.cell_text.specs.Lines.{word_fault, Entry, skipped, metric_entry, atom_entry, end_entry, other_entry}
-use Rattle.cell_text.specs.Entries.{is_same_place, AtomLine, number_at}
+use Rattle.cell_text.specs.Lines.{word_fault, Entry, skipped, metric_entry, atom_entry, end_entry, kind_entry, other_entry}
+use Rattle.cell_text.specs.Entries.{is_same_place, AtomLine, number_at, nothing}
 
 -- the three words
 abbrev pub words_view : ThreeWords → List (List ℕ)
@@ -37,16 +41,18 @@ numbers_view fs = fraction_of fs.a ∷ fraction_of fs.b ∷ fraction_of fs.c ∷
 abbrev pub first_three : List Fraction → List Fraction
 first_three fs = number_at fs 0 ∷ number_at fs 1 ∷ number_at fs 2 ∷ []
 
--- three words, or none
-abbrev pub moment_view : Option ThreeWords → List (List ℕ)
-moment_view None = []
-moment_view (Some ws) = words_view ws
+-- no word, one, or three
+abbrev pub moment_view : MomentWords → List (List ℕ)
+moment_view moments.Absent = []
+moment_view (moments.Scalar w) = w.now ∷ []
+moment_view (moments.Vector ws) = words_view ws
 
 abbrev pub entry_view : Form → Entry
 entry_view forms.Skipped = skipped
 entry_view (forms.Metric squares products) = metric_entry (words_view squares ++ words_view products)
 entry_view (forms.Atom name position moment) = atom_entry name (words_view position ++ moment_view moment)
 entry_view forms.End = end_entry
+entry_view (forms.Kind kind) = kind_entry kind
 entry_view forms.Other = other_entry
 
 abbrev pub atom_view : CodeAtom → AtomLine
@@ -83,3 +89,12 @@ Judges fault (Err e) = Refuses fault e
 abbrev pub AreApart : List AtomLine → Type 0
 AreApart [] = Unit {0}
 AreApart (a ∷ held) = (list_all (λ b. not (is_same_place a b)) held ≡ true) × AreApart held
+
+-- the second and third component of the moment are 0
+abbrev pub IsOfScalar : AtomLine → Type 0
+IsOfScalar a = (a.mb ≡ nothing) × (a.mc ≡ nothing)
+
+-- where moments are scalars, these are
+abbrev pub AreOfKind : MomentKind → List AtomLine → Type 0
+AreOfKind kind [] = Unit {0}
+AreOfKind kind (a ∷ held) = (kind.vector ≡ false → IsOfScalar a) × AreOfKind kind held

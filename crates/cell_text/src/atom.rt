@@ -1,25 +1,37 @@
 // Atom lines read, their ranges, and atoms at one position.
-ghost use Rattle.std.specs.Prelude.{true, ◌≡◌, ◌≤◌, ◌++◌, map, length, MatchResult, Some, None, [], ◌∷◌};
+ghost use Rattle.std.specs.Prelude.{true, ◌≡◌, ◌≤◌, ◌+◌, ◌++◌, map, length, MatchResult, Some, None, [], ◌∷◌};
 ghost use Rattle.std.specs.List.{list_all};
 ghost use Rattle.plain_text.specs.NumberWords.{scaled};
 ghost use Rattle.cell_text.specs.Entries.{values, atom_of, moments, is_billion, is_same_place};
-ghost use Rattle.cell_text.specs.Rules.{same_place};
+ghost use Rattle.cell_text.specs.Rules.{same_place, are_numbers_of};
 ghost use Rattle.cell_text.specs.Views.{atom_view, words_view, numbers_view, first_three, moment_view, ReadsWords};
 
 use crate::atom_line::AtomLine;
 use crate::fault::CellFault;
-use crate::number_words::{are_billions, read_numbers};
-use crate::three::{ThreeNumbers, ThreeWords};
-use crystal::Name;
+use crate::number_words::{are_billions, read_numbers, read_scalar};
+use crate::three::{MomentWords, ThreeNumbers, ThreeWords};
+use crystal::{MomentKind, Name};
 use plain_text::{is_same_modulo_1, zero};
 
-/// The moment that three words spell, 0 where there are none; or the first rule that a word breaks.
-fn read_moment(words: Option<ThreeWords>) -> Result<ThreeNumbers, CellFault>
+/// Whether these are the words of a moment of this kind.
+pub(crate) fn is_of_kind(kind: MomentKind, words: &MomentWords) -> bool
+    ensures { result ≡ are_numbers_of kind (3 + length (moment_view words.now)) }
+{
+    match words {
+        MomentWords::Absent => true,
+        MomentWords::Scalar(_) => !kind.vector,
+        MomentWords::Vector(_) => kind.vector,
+    }
+}
+
+/// The moment that its words spell, 0 where there are none; or the first rule that a word breaks.
+fn read_moment(words: MomentWords) -> Result<ThreeNumbers, CellFault>
     ensures { ReadsWords (moment_view words.entry) (λ f. numbers_view f ≡ first_three (values (moment_view words.entry))) result }
 {
     match words {
-        Some(words) => read_numbers(words),
-        None => Ok(ThreeNumbers {
+        MomentWords::Vector(words) => read_numbers(words),
+        MomentWords::Scalar(word) => read_scalar(word),
+        MomentWords::Absent => Ok(ThreeNumbers {
             a: zero(),
             b: zero(),
             c: zero(),
@@ -31,7 +43,7 @@ fn read_moment(words: Option<ThreeWords>) -> Result<ThreeNumbers, CellFault>
 pub(crate) fn read_atom(
     name: Name,
     position: ThreeWords,
-    moment: Option<ThreeWords>,
+    moment: MomentWords,
 ) -> Result<AtomLine, CellFault>
     ensures { ReadsWords (words_view position.entry ++ moment_view moment.entry) (λ a. atom_view a ≡ atom_of name (values (words_view position.entry ++ moment_view moment.entry))) result }
 {

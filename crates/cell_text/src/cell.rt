@@ -1,14 +1,14 @@
 // The cell of the lines of a cell file.
 ghost use Rattle.std.specs.Prelude.{◌≡◌, ◌≤◌, ◌<◌, ◌^◌, pos, map, length, IfOk, OnOk, true, [], ◌∷◌};
-ghost use Rattle.crystal_spec.specs.Moments.{axial_vectors};
+ghost use Rattle.crystal_spec.specs.Moments.{axial_vectors, IsOfKind};
 ghost use Rattle.crystal.specs.Views.{metric_of as tensor};
 ghost use Rattle.crystal.specs.Occupants.{NoneAt};
 ghost use Rattle.plain_text.specs.NumberWords.{common_denominator};
 ghost use Rattle.cell_text.specs.Entries.{positions, moments, is_positive};
 ghost use Rattle.cell_text.specs.CellFile.{with_name, number_of, position_of, moment_of, cell_with};
 ghost use Rattle.cell_text.specs.Filling.{with_site, whole_of};
-ghost use Rattle.cell_text.specs.Views.{atom_view, AreApart};
-ghost use Rattle.cell_text.specs.Readers.{metric_view};
+ghost use Rattle.cell_text.specs.Views.{atom_view, AreApart, AreOfKind};
+ghost use Rattle.cell_text.specs.Readers.{metric_view, kinds_of, kind_or_default};
 
 use crate::atom_line::AtomLine;
 use crate::names::{first_names, number_name};
@@ -19,11 +19,18 @@ use exact_num::Int;
 use indexmap::IndexSet;
 use std::alloc::{AllocError, Global};
 
-/// The kind of magnetic moments.
-const AXIAL_VECTORS: MomentKind = MomentKind {
-    vector: true,
-    axial: true,
-};
+/// The kind that a line tells, or axial vectors where none does.
+pub(crate) fn kind_or_default(kind: Option<MomentKind>) -> MomentKind
+    ensures { result ≡ kind_or_default kind }
+{
+    match kind {
+        Some(kind) => kind,
+        None => MomentKind {
+            vector: true,
+            axial: true,
+        },
+    }
+}
 
 /// Names the species of this number, unless it has its name.
 fn name_species(cell: &mut Cell, number: usize, name: &Name) -> Result<(), AllocError>
@@ -49,7 +56,7 @@ fn add_atom(
     requires n_at_least { 1 ≤ cell.old.n }
     requires n_at_most { cell.old.n ≤ 10 ^ 6 }
     requires k_at_most { cell.old.k ≤ 10 ^ 6 }
-    requires kind { cell.old.kind ≡ axial_vectors }
+    requires of_kind { IsOfKind cell.old.kind (moment_of cell.old.k (atom_view atom.now)) }
     requires free { NoneAt (position_of cell.old.n (atom_view atom.now)) cell.old.sites }
     requires fewer_names { length cell.old.names < 512 }
     requires fewer { length cell.old.sites < 512 }
@@ -79,6 +86,7 @@ fn exact_scale(metric: &ScaledMetric) -> Int
 /// The cell of the first atom.
 fn first_cell(
     alloc: Global,
+    kind: MomentKind,
     metric: &ScaledMetric,
     n: u32,
     k: u32,
@@ -89,7 +97,8 @@ fn first_cell(
     requires n_at_most { n ≤ 10 ^ 6 }
     requires k_at_least { 1 ≤ k }
     requires k_at_most { k ≤ 10 ^ 6 }
-    ensures { IfOk result (λ c. c ≡ record { names = atom.now.name ∷ []; scale = pos metric.now.scale; metric = tensor metric.now.metric; n = n; k = k; kind = axial_vectors; sites = record { species = 0; position = position_of n (atom_view atom.now); moment = moment_of k (atom_view atom.now) } ∷ [] }) }
+    requires of_kind { IsOfKind kind (moment_of k (atom_view atom.now)) }
+    ensures { IfOk result (λ c. c ≡ record { names = atom.now.name ∷ []; scale = pos metric.now.scale; metric = tensor metric.now.metric; n = n; k = k; kind = kind; sites = record { species = 0; position = position_of n (atom_view atom.now); moment = moment_of k (atom_view atom.now) } ∷ [] }) }
 {
     let first = Atom {
         species: 0,
@@ -103,17 +112,18 @@ fn first_cell(
         metric.metric,
         n,
         k,
-        AXIAL_VECTORS,
+        kind,
         atom.name.copied(),
         first,
     )
 }
 
-/// The cell of a metric tensor and of one or more atoms, no two at one position.
+/// The cell of a metric tensor and of one or more atoms, no two at one position. Its moments are of this kind.
 ///
 /// The least common denominators of positions and moments are n and k. Refuses for want of memory alone.
 pub(crate) fn cell_of(
     alloc: Global,
+    kind: &Option<MomentKind>,
     metric: &ScaledMetric,
     n: u32,
     k: u32,
@@ -129,12 +139,13 @@ pub(crate) fn cell_of(
     requires some { 0 < length atoms.now }
     requires few { length atoms.now ≤ 512 }
     requires apart { AreApart (map atom_view atoms.now) }
-    ensures { IfOk result (λ c. c ≡ cell_with (whole_of (metric_view metric.now) (map atom_view atoms.now))) }
+    requires of_kind { AreOfKind (kind_or_default kind.now) (map atom_view atoms.now) }
+    ensures { IfOk result (λ c. c ≡ cell_with (whole_of (kinds_of kind.now) (metric_view metric.now) (map atom_view atoms.now))) }
 {
     let [first, rest @ ..] = atoms else {
         unreachable!();
     };
-    let mut cell = first_cell(alloc, metric, n, k, first)?;
+    let mut cell = first_cell(alloc, kind_or_default(*kind), metric, n, k, first)?;
     let mut names = first_names(alloc, first.name.as_bytes())?;
     for atom in rest {
         add_atom(alloc, &mut cell, &mut names, atom)?;

@@ -13,13 +13,14 @@ use thiserror::Error;
 /// The rule of the cell file that a line breaks.
 #[derive(Clone, Copy, Debug, PartialEq, Eq, Error)]
 pub enum CellFault {
-    /// The first line is not `magcell 1`, or there is none.
+    /// The first line is neither `magcell 1` nor `magcell 2`, or there is none.
     #[error("{text}", text = texts::NOT_MAGCELL)]
     NotMagcell,
     /// The line has a byte other than tab and the bytes from space to `~`.
     #[error("{text}", text = texts::BAD_BYTE)]
     BadByte,
-    /// The line has none of the forms of a metric line, an atom line and an end line.
+    /// The line has none of the forms of a metric line, an atom line, an end line and, in version 2, a kind line; an atom line has
+    /// one number behind the position where moments are scalars, three where they are vectors, or none.
     #[error("{text}", text = texts::BAD_LINE)]
     BadLine,
     /// A word does not have the form of a number.
@@ -34,6 +35,12 @@ pub enum CellFault {
     /// A metric line stood before.
     #[error("{text}", text = texts::METRIC_TWICE)]
     MetricTwice,
+    /// A kind line stood before.
+    #[error("{text}", text = texts::KIND_TWICE)]
+    KindTwice,
+    /// A kind line stands here, and an atom line stood before.
+    #[error("{text}", text = texts::KIND_LATE)]
+    KindLate,
     /// An end line stands here, and no metric line stood before.
     #[error("{text}", text = texts::METRIC_MISSING)]
     MetricMissing,

@@ -1,24 +1,43 @@
 // What a line is, by its words.
 ghost use Rattle.std.specs.Prelude.{◌≡◌, ℕ, map, MatchResult, None, Some};
 ghost use Rattle.plain_text.specs.Text.{words};
-ghost use Rattle.cell_text.specs.Lines.{begins_comment, is_heading, version_of, behind_metric, behind_atom, behind_end, entry_behind, entry_of_words};
+ghost use Rattle.cell_text.specs.Lines.{begins_comment, version_numbered, version_of_words, version_of, vector_of, axial_of, kind_by_default, kind_with, kind_of_words, behind_metric, behind_atom, behind_end, behind_kind, entry_behind, entry_of_words};
 ghost use Rattle.cell_text.specs.Rules.{heading_fault};
 ghost use Rattle.cell_text.specs.Views.{entry_view};
 
 use crate::fault::CellFault;
 use crate::form::Form;
-use crate::three::ThreeWords;
+use crate::three::{MomentWords, ThreeWords};
 use crate::version::Version;
-use crystal::Name;
+use crystal::{MomentKind, Name};
 use plain_text::has_bad_byte;
 
-/// Whether the words are `magcell 1`.
-fn is_heading(words: &[&[u8]]) -> bool
-    ensures { result ≡ is_heading (map (λ w. w.now) words.now) }
+/// The version of this number.
+fn version_numbered(word: &[u8]) -> Option<Version>
+    ensures { result ≡ version_numbered word.now }
+{
+    if word == b"1".as_slice() {
+        Some(Version::One)
+    } else if word == b"2".as_slice() {
+        Some(Version::Two)
+    } else {
+        None
+    }
+}
+
+/// The version that the words `magcell 1` or `magcell 2` tell.
+fn version_of(words: &[&[u8]]) -> Option<Version>
+    ensures { result ≡ version_of_words (map (λ w. w.now) words.now) }
 {
     match words {
-        [first, second] => *first == b"magcell".as_slice() && *second == b"1".as_slice(),
-        _ => false,
+        [first, second] => {
+            if *first == b"magcell".as_slice() {
+                version_numbered(*second)
+            } else {
+                None
+            }
+        },
+        _ => None,
     }
 }
 
@@ -31,10 +50,10 @@ pub(crate) fn heading(line: &[u8], parts: &[&[u8]]) -> Result<Version, CellFault
     if has_bad_byte(line) {
         return Err(CellFault::BadByte);
     }
-    if !is_heading(parts) {
+    let Some(version) = version_of(parts) else {
         return Err(CellFault::NotMagcell);
-    }
-    Ok(Version::One)
+    };
+    Ok(version)
 }
 
 fn begins_comment(word: &[u8]) -> bool
@@ -85,7 +104,16 @@ fn behind_atom<'a>(words: &'a [&'a [u8]]) -> Form<'a>
                 b: *y,
                 c: *z,
             },
-            None,
+            MomentWords::Absent,
+        ),
+        [x, y, z, s] => Form::Atom(
+            name,
+            ThreeWords {
+                a: *x,
+                b: *y,
+                c: *z,
+            },
+            MomentWords::Scalar(*s),
         ),
         [x, y, z, ma, mb, mc] => Form::Atom(
             name,
@@ -94,7 +122,7 @@ fn behind_atom<'a>(words: &'a [&'a [u8]]) -> Form<'a>
                 b: *y,
                 c: *z,
             },
-            Some(ThreeWords {
+            MomentWords::Vector(ThreeWords {
                 a: *ma,
                 b: *mb,
                 c: *mc,
@@ -115,9 +143,79 @@ fn behind_end<'a>(words: &'a [&'a [u8]]) -> Form<'a>
     }
 }
 
+/// Whether moments are vectors, by the word for it.
+fn is_vector(word: &[u8]) -> Option<bool>
+    ensures { result ≡ vector_of word.now }
+{
+    if word == b"vector".as_slice() {
+        Some(true)
+    } else if word == b"scalar".as_slice() {
+        Some(false)
+    } else {
+        None
+    }
+}
+
+/// Whether moments are axial, by the word for it.
+fn is_axial(word: &[u8]) -> Option<bool>
+    ensures { result ≡ axial_of word.now }
+{
+    if word == b"axial".as_slice() {
+        Some(true)
+    } else if word == b"plain".as_slice() {
+        Some(false)
+    } else {
+        None
+    }
+}
+
+/// The kind of moments, where they are vectors or not, and nothing else is said.
+fn kind_by_default(vector: Option<bool>) -> Option<MomentKind>
+    ensures { result ≡ kind_by_default vector }
+{
+    let vector = vector?;
+    Some(MomentKind {
+        vector,
+        axial: vector,
+    })
+}
+
+/// The kind of moments, where they are vectors or not, and axial or not.
+fn kind_with(vector: Option<bool>, axial: Option<bool>) -> Option<MomentKind>
+    ensures { result ≡ kind_with vector axial }
+{
+    let vector = vector?;
+    let axial = axial?;
+    Some(MomentKind { vector, axial })
+}
+
+/// The kind of moments that the words behind `kind` tell.
+fn kind_of(words: &[&[u8]]) -> Option<MomentKind>
+    ensures { result ≡ kind_of_words (map (λ w. w.now) words.now) }
+{
+    match words {
+        [shape] => kind_by_default(is_vector(*shape)),
+        [shape, factor] => kind_with(is_vector(*shape), is_axial(*factor)),
+        _ => None,
+    }
+}
+
+/// What a line is whose first word is `kind`. Only version 2 has it.
+fn behind_kind<'a>(version: Version, words: &'a [&'a [u8]]) -> Form<'a>
+    ensures { entry_view result ≡ behind_kind version (map (λ w. w.now) words.now) }
+{
+    match version {
+        Version::One => Form::Other,
+        Version::Two => match kind_of(words) {
+            Some(kind) => Form::Kind(kind),
+            None => Form::Other,
+        },
+    }
+}
+
 /// What a line is, by its first word and those behind it.
-fn form_behind<'a>(first: &[u8], words: &'a [&'a [u8]]) -> Form<'a>
-    ensures { entry_view result ≡ entry_behind first.now (map (λ w. w.now) words.now) }
+fn form_behind<'a>(version: Version, first: &[u8], words: &'a [&'a [u8]]) -> Form<'a>
+    ensures { entry_view result ≡ entry_behind version first.now (map (λ w. w.now) words.now) }
 {
     if begins_comment(first) {
         Form::Skipped
@@ -127,6 +225,8 @@ fn form_behind<'a>(first: &[u8], words: &'a [&'a [u8]]) -> Form<'a>
         behind_atom(words)
     } else if first == b"end".as_slice() {
         behind_end(words)
+    } else if first == b"kind".as_slice() {
+        behind_kind(version, words)
     } else {
         Form::Other
     }
@@ -136,10 +236,8 @@ fn form_behind<'a>(first: &[u8], words: &'a [&'a [u8]]) -> Form<'a>
 pub(crate) fn form_of<'a>(version: Version, words: &'a [&'a [u8]]) -> Form<'a>
     ensures { entry_view result ≡ entry_of_words version (map (λ w. w.now) words.now) }
 {
-    match version {
-        Version::One => match words {
-            [] => Form::Skipped,
-            [first, rest @ ..] => form_behind(*first, rest),
-        },
+    match words {
+        [] => Form::Skipped,
+        [first, rest @ ..] => form_behind(version, *first, rest),
     }
 }

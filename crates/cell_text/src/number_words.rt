@@ -1,16 +1,16 @@
 // Three words read as numbers, and numbers in units of 1/d.
-ghost use Rattle.std.specs.Prelude.{◌≡◌, ◌≤◌, ◌^◌};
+ghost use Rattle.std.specs.Prelude.{◌≡◌, ◌≤◌, ◌^◌, [], ◌∷◌};
 ghost use Rattle.std.specs.List.{list_all};
 ghost use Rattle.ring.specs.Size.{AtMost};
 ghost use Rattle.plain_text.specs.NumberWords.{scaled};
 ghost use Rattle.plain_text.specs.Views.{fraction_of};
 ghost use Rattle.cell_text.specs.Entries.{values, is_billion};
-ghost use Rattle.cell_text.specs.Views.{words_view, numbers_view, ReadsWords};
+ghost use Rattle.cell_text.specs.Views.{words_view, numbers_view, first_three, ReadsWords};
 
 use crate::fault::CellFault;
 use crate::three::{ThreeNumbers, ThreeWords};
 use exact_num::Int;
-use plain_text::{NumberWord, read_number, times};
+use plain_text::{NumberWord, read_number, times, zero};
 
 /// The numbers that three words spell, or the first rule that one of them breaks.
 #[tactic(auto, unfolding(crate::specs::Lines::word_fault))]
@@ -21,6 +21,19 @@ pub(crate) fn read_numbers(words: ThreeWords) -> Result<ThreeNumbers, CellFault>
     let b = read_number(words.b)?;
     let c = read_number(words.c)?;
     Ok(ThreeNumbers { a, b, c })
+}
+
+/// The moment of the scalar that a word spells, or the first rule that the word breaks.
+#[tactic(auto, unfolding(crate::specs::Lines::word_fault))]
+pub(crate) fn read_scalar(word: &[u8]) -> Result<ThreeNumbers, CellFault>
+    ensures { ReadsWords (word.now ∷ []) (λ f. numbers_view f ≡ first_three (values (word.now ∷ []))) result }
+{
+    let a = read_number(word)?;
+    Ok(ThreeNumbers {
+        a,
+        b: zero(),
+        c: zero(),
+    })
 }
 
 /// Whether d times the fraction is at most 10^9 in size; d is a multiple of the denominator.

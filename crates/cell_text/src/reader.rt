@@ -1,25 +1,25 @@
 // The reader, which takes the lines of a text one by one.
-ghost use Rattle.std.specs.Prelude.{true, ◌≡◌, ◌<◌, ◌≤◌, ◌++◌, [], ◌∷◌, length, map, OnOk, IfOk};
+ghost use Rattle.std.specs.Prelude.{true, false, ◌≡◌, ◌<◌, ◌≤◌, ◌++◌, [], ◌∷◌, length, map, OnOk, IfOk};
 ghost use Rattle.std.specs.List.{list_all};
 ghost use Rattle.plain_text.specs.Text.{words};
 ghost use Rattle.plain_text.specs.NumberWords.{scaled};
-ghost use Rattle.cell_text.specs.Entries.{start, with_metric, with_atom, with_end, with_entry, with_line, moments, is_billion, atom_of, metric_of, values};
-ghost use Rattle.cell_text.specs.Rules.{metric_fault, place_fault, atom_fault, end_fault, entry_fault, later_fault, judged};
+ghost use Rattle.cell_text.specs.Entries.{start, with_metric, with_atom, with_end, with_kind, with_entry, with_line, kind_of, moments, is_billion, atom_of, metric_of, values};
+ghost use Rattle.cell_text.specs.Rules.{metric_fault, place_fault, kind_fault, atom_fault, end_fault, entry_fault, later_fault, judged};
 ghost use Rattle.cell_text.specs.CellFile.{cell_with};
-ghost use Rattle.cell_text.specs.Views.{Judges, atom_view, entry_view, words_view, moment_view};
+ghost use Rattle.cell_text.specs.Views.{Judges, IsOfScalar, atom_view, entry_view, words_view, moment_view};
 
-use crate::atom::{are_moments_in_range, is_moment_in_range, read_atom, same_place};
+use crate::atom::{are_moments_in_range, is_moment_in_range, is_of_kind, read_atom, same_place};
 use crate::atom_line::AtomLine;
-use crate::cell::cell_of;
+use crate::cell::{cell_of, kind_or_default};
 use crate::fault::{CellFault, LineError};
 use crate::form::Form;
 use crate::line::{form_of, heading};
 use crate::metric::metric_of;
 use crate::number_words::read_numbers;
 use crate::scaled_metric::ScaledMetric;
-use crate::three::ThreeWords;
+use crate::three::{MomentWords, ThreeWords};
 use crate::version::Version;
-use crystal::{Cell, Name};
+use crystal::{Cell, MomentKind, Name};
 use plain_text::{grown, has_bad_byte, words};
 use std::alloc::{AllocError, Global};
 use std::marker::Model;
@@ -28,6 +28,7 @@ use std::marker::Model;
 #[derive(Drop)]
 pub(crate) struct Reader {
     version: Option<Version>,
+    kind: Option<MomentKind>,
     metric: Option<ScaledMetric>,
     atoms: Vec<AtomLine>,
     n: u128,
@@ -54,6 +55,7 @@ impl Reader {
     {
         Reader {
             version: None,
+            kind: None,
             metric: None,
             atoms: Vec::new(alloc),
             n: 1,
@@ -77,7 +79,14 @@ impl Reader {
         let Some(metric) = self.metric else {
             unreachable!();
         };
-        cell_of(alloc, &metric, self.n as u32, self.k as u32, &self.atoms)
+        cell_of(
+            alloc,
+            &self.kind,
+            &metric,
+            self.n as u32,
+            self.k as u32,
+            &self.atoms,
+        )
     }
 
     /// Whether k times each moment is at most 10^9 in size, where k is a multiple of the common denominator so far.
@@ -90,7 +99,8 @@ impl Reader {
 
     /// One more atom.
     fn place(&mut self, atom: AtomLine) -> Result<(), LineError>
-        requires { length self.old.held.atoms < 512 }
+        requires fewer { length self.old.held.atoms < 512 }
+        requires of_kind { (kind_of self.old.held).vector ≡ false → IsOfScalar (atom_view atom) }
         ensures judged { Judges (place_fault self.old.held (atom_view atom)) result }
         ensures next { OnOk result (self.new ≡ record self.old { held = with_atom self.old.held (atom_view atom) }) }
     {
@@ -118,11 +128,14 @@ impl Reader {
         &mut self,
         name: Name,
         position: ThreeWords,
-        moment: Option<ThreeWords>,
+        moment: MomentWords,
     ) -> Result<(), LineError>
         ensures judged { Judges (atom_fault self.old.held name (words_view position.entry ++ moment_view moment.entry)) result }
         ensures next { OnOk result (self.new ≡ record self.old { held = with_atom self.old.held (atom_of name (values (words_view position.entry ++ moment_view moment.entry))) }) }
     {
+        if !is_of_kind(kind_or_default(self.kind), &moment) {
+            return Err(LineError::Fault(CellFault::BadLine));
+        }
         if self.atoms.len() >= 512 {
             return Err(LineError::Fault(CellFault::TooManyAtoms));
         }
@@ -167,6 +180,22 @@ impl Reader {
         Ok(())
     }
 
+    /// A kind line.
+    #[tactic(auto, unfolding(crate::specs::Rules::kind_fault))]
+    fn read_kind(&mut self, kind: MomentKind) -> Result<(), LineError>
+        ensures judged { Judges (kind_fault self.old.held) result }
+        ensures next { OnOk result (self.new ≡ record self.old { held = with_kind self.old.held kind }) }
+    {
+        if self.kind.is_some() {
+            return Err(LineError::Fault(CellFault::KindTwice));
+        }
+        if self.atoms.len() > 0 {
+            return Err(LineError::Fault(CellFault::KindLate));
+        }
+        self.kind = Some(kind);
+        Ok(())
+    }
+
     /// A line, by its form.
     fn read_form(&mut self, form: Form) -> Result<(), LineError>
         ensures judged { Judges (entry_fault self.old.held (entry_view form.entry)) result }
@@ -177,6 +206,7 @@ impl Reader {
             Form::Metric(squares, products) => self.read_metric(squares, products),
             Form::Atom(name, position, moment) => self.read_atom(name, position, moment),
             Form::End => self.read_end(),
+            Form::Kind(kind) => self.read_kind(kind),
             Form::Other => Err(LineError::Fault(CellFault::BadLine)),
         }
     }

@@ -1,7 +1,7 @@
 // A cell that is read, one with too many atoms, and the texts of refusals. What texts spell, and why others are refused, is
 // pinned in `proofs/KnownValues.antt`.
 use crate::{CellError, CellFault, read_cell, texts};
-use crystal::Cell;
+use crystal::{Cell, MomentKind};
 use io_edge::Bytes;
 use std::alloc::{AllocError, Global};
 
@@ -51,6 +51,27 @@ fn a_cell_is_read(rt: HostRuntime) {
     assert!(rt; sizes(rt.alloc(), THREE_ATOMS) == Some((3, 2, 6, 2)));
 }
 
+/// Two atoms of axial scalars.
+const SCALARS: &[u8] =
+    b"magcell 2\nkind scalar axial\nmetric 1 1 4 0 0 0\natom A 0 0 0 1\natom A 0 0 1/2\nend\n";
+
+/// The kind of the moments of the cell that a text spells.
+fn kind(alloc: Global, text: &[u8]) -> Option<MomentKind> {
+    let bytes = Bytes::copy(alloc, text).ok()?;
+    let cell = read(alloc, &bytes).ok()?;
+    Some(cell.kind())
+}
+
+#[test]
+fn scalars_are_read(rt: HostRuntime) {
+    let axial_scalars = MomentKind {
+        vector: false,
+        axial: true,
+    };
+    assert!(rt; sizes(rt.alloc(), SCALARS) == Some((2, 1, 2, 1)));
+    assert!(rt; kind(rt.alloc(), SCALARS) == Some(axial_scalars));
+}
+
 #[test]
 fn the_513th_atom_is_refused(rt: HostRuntime) {
     assert!(rt; refusal(rt.alloc()) == Some(CellError::Refused(514, CellFault::TooManyAtoms)));
@@ -69,6 +90,8 @@ const TOLD: &[Told] = &[
     Told(CellFault::NumberRange, texts::NUMBER_RANGE),
     Told(CellFault::ZeroDenominator, texts::ZERO_DENOMINATOR),
     Told(CellFault::MetricTwice, texts::METRIC_TWICE),
+    Told(CellFault::KindTwice, texts::KIND_TWICE),
+    Told(CellFault::KindLate, texts::KIND_LATE),
     Told(CellFault::MetricMissing, texts::METRIC_MISSING),
     Told(CellFault::MetricRange, texts::METRIC_RANGE),
     Told(CellFault::NotPositive, texts::NOT_POSITIVE),

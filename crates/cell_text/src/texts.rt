@@ -2,7 +2,7 @@
 pub use plain_text::texts::{BAD_NUMBER, NUMBER_RANGE, ZERO_DENOMINATOR};
 
 /// Of `CellFault::NotMagcell`.
-pub const NOT_MAGCELL: &str = "not a magcell 1 file";
+pub const NOT_MAGCELL: &str = "not a magcell 1 or 2 file";
 
 /// Of `CellFault::BadByte`.
 pub const BAD_BYTE: &str = "byte is not plain ASCII";
@@ -12,6 +12,12 @@ pub const BAD_LINE: &str = "line has no known form";
 
 /// Of `CellFault::MetricTwice`.
 pub const METRIC_TWICE: &str = "metric is given twice";
+
+/// Of `CellFault::KindTwice`.
+pub const KIND_TWICE: &str = "kind is given twice";
+
+/// Of `CellFault::KindLate`.
+pub const KIND_LATE: &str = "kind must stand before the atoms";
 
 /// Of `CellFault::MetricMissing`.
 pub const METRIC_MISSING: &str = "metric is missing";

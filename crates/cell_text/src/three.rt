@@ -10,6 +10,19 @@ pub(crate) struct ThreeWords<'a> {
     pub c: &'a [u8],
 }
 
+/// The words of a moment that are to be numbers.
+#[derive(Clone, Copy)]
+pub(crate) enum MomentWords<'a> {
+    /// None: the moment is 0.
+    Absent,
+
+    /// One, of a scalar.
+    Scalar(&'a [u8]),
+
+    /// Three, of a vector.
+    Vector(ThreeWords<'a>),
+}
+
 /// Three numbers: of the axes a, b and c, or of the pairs bc, ac and ab.
 #[derive(Clone, Copy)]
 pub(crate) struct ThreeNumbers {

@@ -5,4 +5,7 @@
 pub enum Version {
     /// `magcell 1`.
     One,
+
+    /// `magcell 2`, which may tell the kind of the moments.
+    Two,
 }

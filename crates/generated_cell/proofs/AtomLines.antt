@@ -6,6 +6,7 @@ use Rattle.std.proofs.lemmas.Bool.{and_from}
 use Rattle.std.proofs.lemmas.List.Folds.{list_all-append}
 use Rattle.numbers.specs.Gcd.{gcd}
 use Rattle.numbers.specs.Fraction.{Fraction, whole, lowest}
+use Rattle.crystal_spec.specs.Moments.{axial_vectors}
 use Rattle.plain_text.specs.Text.{words}
 use Rattle.plain_text.specs.NumberWords.{number_fault, number_value}
 use Rattle.plain_text.specs.FirstFaults.{first_of}
@@ -13,6 +14,7 @@ use Rattle.plain_text.proofs.NumberWords.{IsWord}
 use Rattle.cell_text.specs.declared.version.Version.TheVariants.{One}
 use Rattle.cell_text.specs.Lines.{atom_word, word_fault, atom_entry, entry_of_words, entry_of}
 use Rattle.cell_text.specs.Entries.{AtomLine, values, atom_of}
+use Rattle.cell_text.specs.Rules.{are_numbers_of}
 use Rattle.cell_text.proofs.WordFaults.{word_passes}
 use Rattle.cell_print.proofs.TextCuts.{Follows, follows_end, follows_word, is_line_byte, word-line_bytes}
 use Rattle.generated_cell.specs.GeneratedText.{Node, eighths, moment_text, draw_at, atom_line}
@@ -64,6 +66,15 @@ has_count x y z (suc (suc d)) = refl
 pub atom_line-is : (ds : List ℕ) (v : Node) → InGrid v → entry_of One (atom_line ds v) ≡ atom_entry (codes "A") (atom_words ds v)
 unfolding entry_of
 atom_line-is ds v h = ap (entry_of_words One) (atom_line-words ds v h) ∙ has_count (eighths v.i) (eighths v.j) (eighths v.k) (draw_at ds v)
+
+count_is : (x y z : List ℕ) (d : ℕ) → are_numbers_of axial_vectors (length (x ∷ y ∷ z ∷ moment_words d)) ≡ true
+count_is x y z zero = refl
+count_is x y z (suc zero) = refl
+count_is x y z (suc (suc d)) = refl
+
+-- It has as many number words as an atom line of vectors.
+pub atom_line-count : (ds : List ℕ) (v : Node) → are_numbers_of axial_vectors (length (atom_words ds v)) ≡ true
+atom_line-count ds v = count_is (eighths v.i) (eighths v.j) (eighths v.k) (draw_at ds v)
 
 moment-no_fault : (d : ℕ) → first_of (map word_fault (moment_words d)) ≡ None
 unfolding word_fault number_fault

@@ -15,7 +15,7 @@ use Rattle.plain_text.specs.NumberWords.{number_fault, number_value, scaled, com
 use Rattle.plain_text.specs.Text.{has_bad_byte}
 use Rattle.plain_text.proofs.NumberWords.{reduced}
 use Rattle.cell_text.specs.declared.fault.CellFault.{CellFault}
-use Rattle.cell_text.specs.declared.fault.CellFault.TheVariants.{TooManyAtoms, PositionRange, MomentRange, BadByte, AfterEnd}
+use Rattle.cell_text.specs.declared.fault.CellFault.TheVariants.{BadLine, TooManyAtoms, PositionRange, MomentRange, BadByte, AfterEnd}
 use Rattle.cell_text.specs.declared.version.Version.TheVariants.{One}
 use Rattle.cell_text.specs.Lines.{end_word, word_fault, version_of, Entry, end_entry, entry_of}
 use Rattle.cell_text.specs.Entries.{AtomLine, ScaledMetric, Contents, State, state_with, with_atom, with_entry, with_line, state_after, contents, positions, moments, is_billion, is_metric_in_range, is_positive, are_positions_in_range, are_moments_in_range, is_same_place, symmetric}
@@ -26,7 +26,7 @@ use Rattle.cell_print.proofs.CommonDenominators.{common_denominator-divides}
 use Rattle.generated_cell.specs.GeneratedText.{Node, nodes, row_of, plane_of, draw_at, atom_line}
 use Rattle.generated_cell.specs.GeneratedCell.{component}
 use Rattle.generated_cell.proofs.Eighths.{eighth, eighth-same}
-use Rattle.generated_cell.proofs.AtomLines.{InGrid, atom_words, atom_at, atom_line-is, atom_line-no_fault, atom_line-read, atom_line-bytes}
+use Rattle.generated_cell.proofs.AtomLines.{InGrid, atom_words, atom_at, atom_line-is, atom_line-count, atom_line-no_fault, atom_line-read, atom_line-bytes}
 
 -- ---- the order of the nodes
 
@@ -146,14 +146,14 @@ metric_held = record { scale = 1; entries = symmetric (pos 64) (pos 64) (pos 64)
 
 -- behind the metric line and the lines of some atoms
 abbrev pub held_with : List ℕ → List Node → Contents
-held_with ds vs = record { metrics = metric_held ∷ []; atoms = map (atom_at ds) vs; ended = false }
+held_with ds vs = record { kinds = []; metrics = metric_held ∷ []; atoms = map (atom_at ds) vs; ended = false }
 
 abbrev pub behind : List ℕ → List Node → State
 behind ds vs = state_with (Some One) (held_with ds vs)
 
 -- of the whole text
 abbrev pub whole_with : List ℕ → List Node → Contents
-whole_with ds vs = record { metrics = metric_held ∷ []; atoms = map (atom_at ds) vs; ended = true }
+whole_with ds vs = record { kinds = []; metrics = metric_held ∷ []; atoms = map (atom_at ds) vs; ended = true }
 
 -- ---- an atom line
 
@@ -166,13 +166,13 @@ place_fault-none ds vs v in_grid below =
     let more : map (atom_at ds) vs ++ atom_at ds v ∷ [] ≡ map (atom_at ds) (vs ++ v ∷ []) = sym (map-append (atom_at ds) vs (v ∷ [])) in
     two_none _ _ _ (ap are_positions_in_range more ∙ positions-range ds (vs ++ v ∷ [])) (ap are_moments_in_range more ∙ moments-range ds (vs ++ v ∷ [])) (place-none ds vs v in_grid below)
 
-three_none : (a : Bool) (f g : Option CellFault) → a ≡ false → f ≡ None → g ≡ None → first_of (when a TooManyAtoms ∷ f ∷ g ∷ []) ≡ None
-three_none a f g ea ef eg = rw (ea, ef, eg) refl
+rules_none : (b a : Bool) (f g : Option CellFault) → b ≡ true → a ≡ false → f ≡ None → g ≡ None → first_of (when (not b) BadLine ∷ when a TooManyAtoms ∷ f ∷ g ∷ []) ≡ None
+rules_none b a f g eb ea ef eg = rw (eb, ea, ef, eg) refl
 
 atom_fault-none : (ds : List ℕ) (vs : List Node) (v : Node) → length vs < 512 → InGrid v → AreBelow (number_of v) vs → atom_fault (held_with ds vs) (codes "A") (atom_words ds v) ≡ None
 unfolding atom_fault
 atom_fault-none ds vs v fewer in_grid below =
-    three_none _ _ _
+    rules_none _ _ _ _ (atom_line-count ds v)
     (ap (λ (n : ℕ). nat_le 512 n) (length-map vs (atom_at ds)) ∙ lt-leb 512 (length vs) fewer)
     (atom_line-no_fault ds v in_grid)
     (ap (place_fault (held_with ds vs)) (atom_line-read ds v in_grid) ∙ place_fault-none ds vs v in_grid below)
@@ -196,7 +196,7 @@ atom-held ds before vs v in_grid held =
     ∙ ap with_atoms (sym (map-append (atom_at ds) vs (v ∷ [])))
   where
     with_atoms : List AtomLine → State
-    with_atoms atoms = state_with (Some One) (record { metrics = metric_held ∷ []; atoms = atoms; ended = false })
+    with_atoms atoms = state_with (Some One) (record { kinds = []; metrics = metric_held ∷ []; atoms = atoms; ended = false })
 
 -- ---- the first two lines
 

@@ -134,7 +134,7 @@ steps_start os gens = record { made = record { each = λ o m. absurd m }; each =
 -- ---- the group
 
 -- t and the reduced difference, and t and the difference, reduce to one
-sum_reduced : (t d : Triple) → reduced (sum_of t (reduced d)) ≡ reduced (sum_of t d)
+pub sum_reduced : (t d : Triple) → reduced (sum_of t (reduced d)) ≡ reduced (sum_of t d)
 sum_reduced t d =
     let r = reduces_12 d in
     sym (reduced_same (sum_of t d) (sum_of t (reduced d)) r.cells (ap (sum_of t) r.same ∙ sum_associates t (reduced d) (multiple (pos 12) r.cells)))

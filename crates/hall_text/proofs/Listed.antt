@@ -134,3 +134,23 @@ pub get_same : {X : Type 0} (xs : List X) (i : ℕ) (d : X) → i < length xs �
 get_same [] i d l = absurd (omega (arith, l))
 get_same (y ∷ ys) zero d l = refl
 get_same (y ∷ ys) (suc i) d l = get_same ys i d (omega (arith, l))
+
+-- ---- two lists
+
+pub append_left : {X : Type 0} (xs ys : List X) (o : X) → IsMember o xs → IsMember o (xs ++ ys)
+append_left [] ys o m = absurd m
+append_left (x ∷ xs) ys o (inl e) = inl e
+append_left (x ∷ xs) ys o (inr m) = inr (append_left xs ys o m)
+
+pub append_right : {X : Type 0} (xs ys : List X) (o : X) → IsMember o ys → IsMember o (xs ++ ys)
+append_right [] ys o m = m
+append_right (x ∷ xs) ys o m = inr (append_right xs ys o m)
+
+pub append_cases : {X : Type 0} (xs ys : List X) (o : X) → IsMember o (xs ++ ys) → IsMember o xs ⊎ IsMember o ys
+append_cases [] ys o m = inr m
+append_cases (x ∷ xs) ys o (inl e) = inl (inl e)
+append_cases (x ∷ xs) ys o (inr m) = by (append_cases xs ys o m)
+  where
+    by : IsMember o xs ⊎ IsMember o ys → IsMember o (x ∷ xs) ⊎ IsMember o ys
+    by (inl k) = inl (inr k)
+    by (inr k) = inr k

@@ -4,13 +4,10 @@
 //! line, and ends with the number of its status.
 #![tactic(auto)]
 
-#[cfg(test)]
-mod tests;
-
 use command_words::Words;
 use io_edge::{Bytes, DirShelf, StdSink, StdSource};
 use magsym_run::run_counted;
-use status_lines::Status;
+use run_status::Status;
 use std::alloc::AllocError;
 use std::marker::Brand;
 use std::process::ExitCode;

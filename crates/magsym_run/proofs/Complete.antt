@@ -5,8 +5,8 @@ use Rattle.std.specs.declared.option.Option.{Option}
 use Rattle.std.specs.declared.result.Result.TheVariants.{Ok, Err}
 use Rattle.std.specs.Io.KnownBytes.{Consumes, IsAtEnd}
 use Rattle.cell_text.specs.Rules.{cell_fault}
-use Rattle.status_lines.specs.declared.status.Status.{Status}
-use Rattle.status_lines.specs.declared.status.Status.TheVariants.{Done, NoMatch, Usage, CellTooLong, CellRefused, SymbolRefused, TableRefused, TableTooLong, ReadFault, WriteFault, Memory}
+use Rattle.run_status.specs.declared.status.Status.{Status}
+use Rattle.run_status.specs.declared.status.Status.TheVariants.{Done, NoMatch, Usage, CellTooLong, CellRefused, SymbolRefused, TableRefused, TableTooLong, ReadFault, WriteFault, Memory}
 use Rattle.hall_symbol.specs.Symbols.{HallSymbol, generators}
 use Rattle.hall_symbol.specs.Spelling.{symbol_fault}
 use Rattle.hall_symbol.specs.Cuts.{behind_first_word}
@@ -22,8 +22,8 @@ use Rattle.answers.specs.HallReports.{IsSymbolFault}
 use Rattle.command_words.specs.declared.command.Command.{Command}
 use Rattle.command_words.specs.declared.command.Command.TheVariants.{Symmetry, Primitive, Dataset, Orbits, Hall, Identify, Selfrun}
 use Rattle.command_words.specs.Commands.{command, argument, ReadsCell}
-use Rattle.magsym_run.specs.Outcomes.{Streams, Outcome, IsAskedOfCell, IsTableWanted, FailsToReadTable}
-use Rattle.status_lines.specs.StatusKinds.{kind_of, IsDoneOrMemory}
+use Rattle.command_runs.specs.Outcomes.{Streams, Outcome, IsAskedOfCell, IsTableWanted, FailsToReadTable}
+use Rattle.run_status.specs.StatusKinds.{kind_of, IsDoneOrMemory}
 use Rattle.magsym_run.specs.Completeness.{IsAnswerable, IsThere, SpellsCell, HasTable, HasGroup}
 
 -- what was read to the end is all of a known text

@@ -18,7 +18,7 @@ use Rattle.hall_text.specs.declared.rows.Row.{Row}
 use Rattle.command_words.specs.declared.command.Command.{Command}
 use Rattle.command_words.specs.declared.command.Command.TheVariants.{Symmetry, Primitive, Dataset, Orbits, Hall, Identify, Selfrun}
 use Rattle.command_words.specs.Commands.{command, argument}
-use Rattle.magsym_run.specs.Outcomes.{Streams}
+use Rattle.command_runs.specs.Outcomes.{Streams}
 
 -- the input tells its bytes, which are at most 262,144 and spell a cell, and it did not fail
 pub record SpellsCell (s : Streams) : Type 0 where

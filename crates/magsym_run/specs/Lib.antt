@@ -1,3 +1,1 @@
 pub mod Completeness
-pub mod Outcomes
-pub mod Writings

@@ -1,17 +1,18 @@
 ghost use Rattle.std.specs.Prelude.{◌≡◌, ◌<◌, ◌≤◌, ◌⊎◌};
 ghost use Rattle.command_words.specs.Commands.{argument};
 ghost use Rattle.io_edge.specs.Reading.{TakesAtMost, StopsAtEnd};
-ghost use Rattle.status_lines.specs.StatusKinds.{kind_of, IsDone, IsRefusal, IsDoneOrMemory};
+ghost use Rattle.run_status.specs.StatusKinds.{kind_of, IsDone, IsRefusal, IsDoneOrMemory};
 ghost use Rattle.status_lines.specs.Statuses.{line_of};
 ghost use Rattle.status_lines.specs.Telling.{Tells};
 ghost use Rattle.magsym_run.specs.Completeness.{IsAnswerable};
-ghost use Rattle.magsym_run.specs.Outcomes.{streams, Outcome, IsAskedOfCell, IsTableWanted, TakesAtMostTable};
+ghost use Rattle.command_runs.specs.Outcomes.{streams, Outcome, IsAskedOfCell, IsTableWanted, TakesAtMostTable};
 
-use crate::commands::answer;
+use command_runs::answer;
 use command_words::Words;
 use crystal::Steps;
 use io_edge::{Shelf, Sink, Source};
-use status_lines::{Status, tell};
+use run_status::Status;
+use status_lines::tell;
 use std::alloc::Global;
 use std::sync::ledger::{Blank, Ledger};
 

@@ -7,8 +7,8 @@ use Rattle.std.specs.Prelude.{ℕ, List, ◌∷◌, ◌++◌, codes}
 use Rattle.crystal_spec.specs.Matrices.{Matrix}
 use Rattle.crystal_spec.specs.Crystals.{Structure}
 use Rattle.operation_text.specs.EntryText.{entries_text}
-use Rattle.cell_print.specs.CellFileText.{cell_lines_text}
+use Rattle.cell_print.specs.CellFileText.{heading_text, cell_lines_text}
 
 -- Q as a comment, between the first line of the cell file of the cell and the others
 abbrev pub filled_text : Matrix → Structure → List ℕ
-filled_text back c = codes "magcell 1\n# back" ++ entries_text back ++ 10 ∷ cell_lines_text c
+filled_text back c = heading_text c.kind ++ codes "# back" ++ entries_text back ++ 10 ∷ cell_lines_text c

@@ -1,5 +1,5 @@
--- The text of a dataset and that of orbits at a few values.
-use Rattle.std.proofs.Common.{◌≡◌, ◌∷◌, [], List, ℕ, pos, negsuc, refl}
+-- The texts of a dataset, of orbits and of a primitive cell at a few values.
+use Rattle.std.proofs.Common.{◌≡◌, ◌∷◌, [], List, ℕ, false, pos, negsuc, refl}
 use Rattle.std.specs.Prelude.{codes}
 use Rattle.std.specs.Fmt.{digits}
 use Rattle.numbers.specs.Gcd.{gcd}
@@ -13,6 +13,8 @@ use Rattle.operation_text.specs.OperationText.{parts_text}
 use Rattle.site_orbits.specs.Entries.{AtomOrbit}
 use Rattle.plain_text.specs.NumberText.{number_text}
 use Rattle.serde_json.proofs.OnLiterals.{serde_json_on_literals}
+use Rattle.cell_print.specs.CellFileText.{atom_text}
+use Rattle.report_text.specs.PrimitiveText.{cell_in_basis_text}
 use Rattle.report_text.specs.OrbitText.{orbit_text}
 use Rattle.report_text.specs.DatasetText.{metric_words, dataset_text}
 
@@ -69,3 +71,20 @@ text_of_orbits : orbit_text (codes "A" ∷ codes "B" ∷ []) (site_of_species 0 
     ≡ codes "atom 1 A orbit 1 site 1\natom 2 B orbit 2 site 2\natom 3 A orbit 1 site 1\norbit 1 size 2 site 1\nx,y,z,+1\norbit 2 size 1 site 2\n-x,-y,-z,+1\nx,y,z,+1\n"
 unfolding orbit_text parts_text digits
 text_of_orbits = refl
+
+-- ---- a primitive cell
+
+text_of_a_primitive_cell : cell_in_basis_text 2 inversion one_atom ≡ codes "magcell 1\n# index 2\n# back -1 0 0 0 -1 0 0 0 -1\nmetric 4 5 6 1 1 1\natom X 0 0 0 1 2 3\nend\n"
+unfolding cell_in_basis_text atom_text number_text digits gcd
+text_of_a_primitive_cell = refl
+
+-- one atom with the moment 1, a scalar that is not axial
+abbrev one_scalar : Structure
+one_scalar = record one_atom {
+  kind = record { vector = false; axial = false };
+  sites = record { species = 0; position = record { x = pos 0; y = pos 0; z = pos 0 }; moment = record { x = pos 1; y = pos 0; z = pos 0 } } ∷ [];
+}
+
+text_of_a_primitive_cell_of_scalars : cell_in_basis_text 2 inversion one_scalar ≡ codes "magcell 2\n# index 2\n# back -1 0 0 0 -1 0 0 0 -1\nkind scalar plain\nmetric 4 5 6 1 1 1\natom X 0 0 0 1\nend\n"
+unfolding cell_in_basis_text atom_text number_text digits gcd
+text_of_a_primitive_cell_of_scalars = refl

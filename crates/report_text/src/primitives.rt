@@ -3,7 +3,7 @@ ghost use Rattle.std.specs.Prelude.{◌≡◌, ◌++◌, decimal, codes, IfOk, O
 ghost use Rattle.operation_text.specs.EntryText.{entries_text};
 ghost use Rattle.report_text.specs.PrimitiveText.{cell_in_basis_text};
 
-use cell_print::push_cell;
+use cell_print::{push_cell, push_heading};
 use exact_num::Int;
 use io_edge::Bytes;
 use matrix3::Mat3;
@@ -34,13 +34,16 @@ fn push_back(alloc: Global, out: &mut Bytes, back: &Mat3<Int>) -> Result<(), All
 
 /// The text of a primitive cell: its cell file, with the index and Q = P⁻¹ as comments behind the first line.
 ///
-/// The entries of Q stand row by row. Refuses for want of memory alone.
+/// The entries of Q stand row by row. The first line is `magcell 1` where moments are axial vectors, and else `magcell 2`.
+/// Refuses for want of memory alone.
 pub fn prim_report(alloc: Global, prim: &Primitive) -> Result<Bytes, AllocError>
     ensures { IfOk result (λ text. text ≡ cell_in_basis_text prim.now.index prim.now.back prim.now.cell) }
 {
-    let mut out = Bytes::copy(alloc, b"magcell 1\n")?;
+    let cell = prim.cell();
+    let mut out = Bytes::new(alloc);
+    push_heading(&mut out, cell.kind())?;
     push_index(alloc, &mut out, prim.index())?;
     push_back(alloc, &mut out, prim.back())?;
-    push_cell(alloc, &mut out, prim.cell())?;
+    push_cell(alloc, &mut out, cell)?;
     Ok(out)
 }

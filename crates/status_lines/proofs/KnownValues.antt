@@ -1,20 +1,15 @@
--- The exit statuses, and the lines that tell statuses.
+-- The lines that tell statuses.
 use Rattle.std.proofs.Common.{◌≡◌, ◌∷◌, [], map, refl}
 use Rattle.std.specs.Prelude.{codes}
 use Rattle.std.specs.Fmt.{digits}
-use Rattle.cell_text.specs.declared.fault.CellFault.TheVariants.{NotMagcell, BadByte, BadLine, BadNumber, NumberRange, ZeroDenominator, MetricTwice, MetricMissing, MetricRange, NotPositive, PositionRange, MomentRange, TooManyAtoms, NoAtom, SamePlace, NoEnd, AfterEnd}
+use Rattle.cell_text.specs.declared.fault.CellFault.TheVariants.{NotMagcell, BadByte, BadLine, BadNumber, NumberRange, ZeroDenominator, MetricTwice, KindTwice, KindLate, MetricMissing, MetricRange, NotPositive, PositionRange, MomentRange, TooManyAtoms, NoAtom, SamePlace, NoEnd, AfterEnd}
 use Rattle.command_words.specs.declared.command.UsageFault.TheVariants.{NoCommand, UnknownCommand, UnknownOption, RepeatedOption, MissingValue, BadValue, MissingWord, ExtraWord}
 use Rattle.hall_symbol.specs.declared.fault.HallFault.TheVariants.{Empty, BadToken}
 use Rattle.hall_text.specs.declared.fault.RowFault.TheVariants.{Symbol, TooManyMatrices, TooManyRows, BadRow}
 use Rattle.crystal_spec.specs.Matrices.{identity}
 use Rattle.report_basis.specs.declared.Kept.TheVariants.{NoBase}
-use Rattle.status_lines.specs.declared.status.Status.TheVariants.{Done, NoMatch, Usage, CellTooLong, CellRefused, SymbolRefused, TableRefused, TableTooLong, ReadFault, WriteFault, Memory}
-use Rattle.status_lines.specs.Statuses.{number_of, line_of}
-
--- ---- exit statuses
-
-numbers : map number_of (Done NoBase ∷ NoMatch identity ∷ Usage NoCommand ∷ CellTooLong ∷ CellRefused 1 NotMagcell ∷ SymbolRefused TooManyMatrices ∷ TableRefused 1 BadRow ∷ TableTooLong ∷ ReadFault ∷ WriteFault 0 NoBase ∷ Memory ∷ []) ≡ 0 ∷ 1 ∷ 2 ∷ 3 ∷ 3 ∷ 4 ∷ 4 ∷ 4 ∷ 5 ∷ 6 ∷ 7 ∷ []
-numbers = refl
+use Rattle.run_status.specs.declared.status.Status.TheVariants.{Done, NoMatch, Usage, CellTooLong, CellRefused, SymbolRefused, TableRefused, TableTooLong, ReadFault, WriteFault, Memory}
+use Rattle.status_lines.specs.Statuses.{line_of}
 
 -- ---- lines
 
@@ -48,7 +43,7 @@ line_of_extra_word = refl
 line_of_long_cell : line_of CellTooLong ≡ codes "magsym: cell is longer than 262144 bytes\n"
 line_of_long_cell = refl
 
-line_of_not_magcell : line_of (CellRefused 1 NotMagcell) ≡ codes "magsym: line 1: not a magcell 1 file\n"
+line_of_not_magcell : line_of (CellRefused 1 NotMagcell) ≡ codes "magsym: line 1: not a magcell 1 or 2 file\n"
 unfolding digits
 line_of_not_magcell = refl
 
@@ -71,6 +66,14 @@ line_of_number_range = refl
 line_of_zero_denominator : line_of (CellRefused 3 ZeroDenominator) ≡ codes "magsym: line 3: denominator is zero\n"
 unfolding digits
 line_of_zero_denominator = refl
+
+line_of_kind_twice : line_of (CellRefused 3 KindTwice) ≡ codes "magsym: line 3: kind is given twice\n"
+unfolding digits
+line_of_kind_twice = refl
+
+line_of_kind_late : line_of (CellRefused 4 KindLate) ≡ codes "magsym: line 4: kind must stand before the atoms\n"
+unfolding digits
+line_of_kind_late = refl
 
 line_of_metric_twice : line_of (CellRefused 3 MetricTwice) ≡ codes "magsym: line 3: metric is given twice\n"
 unfolding digits

@@ -1,3 +1,2 @@
-pub mod StatusKinds
 pub mod Statuses
 pub mod Telling

@@ -1,30 +1,16 @@
--- How a run ended: its exit status, and the line that tells it.
---   number_of status   the exit status of the program
+-- The line that tells how a run ended.
 --   fault_text fault   what the line says of a fault of the cell file
 --   line_of status     what goes to the error stream: nothing after a whole report, else one line
 use Rattle.std.specs.Prelude.{ℕ, List, [], ◌∷◌, ◌++◌, codes, decimal}
 use Rattle.plain_text.specs.declared.texts.TheConstants.{BAD_NUMBER, NUMBER_RANGE, ZERO_DENOMINATOR}
-use Rattle.cell_text.specs.declared.texts.TheConstants.{NOT_MAGCELL, BAD_BYTE, BAD_LINE, METRIC_TWICE, METRIC_MISSING, METRIC_RANGE, NOT_POSITIVE, POSITION_RANGE, MOMENT_RANGE, TOO_MANY_ATOMS, NO_ATOM, BEFORE_ATOMS, BETWEEN_ATOMS, BEHIND_ATOMS, NO_END, AFTER_END, OUT_OF_MEMORY}
+use Rattle.cell_text.specs.declared.texts.TheConstants.{NOT_MAGCELL, BAD_BYTE, BAD_LINE, METRIC_TWICE, KIND_TWICE, KIND_LATE, METRIC_MISSING, METRIC_RANGE, NOT_POSITIVE, POSITION_RANGE, MOMENT_RANGE, TOO_MANY_ATOMS, NO_ATOM, BEFORE_ATOMS, BETWEEN_ATOMS, BEHIND_ATOMS, NO_END, AFTER_END, OUT_OF_MEMORY}
 use Rattle.hall_text.specs.RowTexts.{row_text}
 use Rattle.cell_text.specs.declared.fault.CellFault.{CellFault}
-use Rattle.cell_text.specs.declared.fault.CellFault.TheVariants.{NotMagcell, BadByte, BadLine, BadNumber, NumberRange, ZeroDenominator, MetricTwice, MetricMissing, MetricRange, NotPositive, PositionRange, MomentRange, TooManyAtoms, NoAtom, SamePlace, NoEnd, AfterEnd}
+use Rattle.cell_text.specs.declared.fault.CellFault.TheVariants.{NotMagcell, BadByte, BadLine, BadNumber, NumberRange, ZeroDenominator, MetricTwice, KindTwice, KindLate, MetricMissing, MetricRange, NotPositive, PositionRange, MomentRange, TooManyAtoms, NoAtom, SamePlace, NoEnd, AfterEnd}
 use Rattle.command_words.specs.declared.command.UsageFault.{UsageFault}
 use Rattle.command_words.specs.declared.command.UsageFault.TheVariants.{NoCommand, UnknownCommand, UnknownOption, RepeatedOption, MissingValue, BadValue, MissingWord, ExtraWord}
-use Rattle.status_lines.specs.declared.status.Status.{Status}
-use Rattle.status_lines.specs.declared.status.Status.TheVariants.{Done, NoMatch, Usage, CellTooLong, CellRefused, SymbolRefused, TableRefused, TableTooLong, ReadFault, WriteFault, Memory}
-
-abbrev pub number_of : Status → ℕ
-number_of (Done kept) = 0
-number_of (NoMatch q) = 1
-number_of (Usage fault) = 2
-number_of CellTooLong = 3
-number_of (CellRefused line fault) = 3
-number_of (SymbolRefused fault) = 4
-number_of (TableRefused row fault) = 4
-number_of TableTooLong = 4
-number_of ReadFault = 5
-number_of (WriteFault written kept) = 6
-number_of Memory = 7
+use Rattle.run_status.specs.declared.status.Status.{Status}
+use Rattle.run_status.specs.declared.status.Status.TheVariants.{Done, NoMatch, Usage, CellTooLong, CellRefused, SymbolRefused, TableRefused, TableTooLong, ReadFault, WriteFault, Memory}
 
 -- `magsym: `, the sentence and LF
 abbrev pub told : List ℕ → List ℕ
@@ -49,6 +35,8 @@ fault_text BadNumber = BAD_NUMBER.now
 fault_text NumberRange = NUMBER_RANGE.now
 fault_text ZeroDenominator = ZERO_DENOMINATOR.now
 fault_text MetricTwice = METRIC_TWICE.now
+fault_text KindTwice = KIND_TWICE.now
+fault_text KindLate = KIND_LATE.now
 fault_text MetricMissing = METRIC_MISSING.now
 fault_text MetricRange = METRIC_RANGE.now
 fault_text NotPositive = NOT_POSITIVE.now

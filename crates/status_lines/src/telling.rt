@@ -1,18 +1,18 @@
 ghost use Rattle.std.specs.Prelude.{◌≡◌, ◌≤◌, ◌++◌, map, codes, decimal};
 ghost use Rattle.std.specs.List.{concat};
 ghost use Rattle.status_lines.specs.Telling.{Tells};
-ghost use Rattle.status_lines.specs.declared.status.Status.TheVariants.{CellRefused, SymbolRefused, TableRefused};
+ghost use Rattle.run_status.specs.declared.status.Status.TheVariants.{CellRefused, SymbolRefused, TableRefused};
 ghost use Rattle.cell_text.specs.declared.fault.CellFault.TheVariants.{SamePlace};
 ghost use Rattle.hall_symbol.specs.FaultTexts.{digits_of};
-ghost use Rattle.status_lines.specs.StatusKinds.{kind_of, IsDone};
+ghost use Rattle.run_status.specs.StatusKinds.{kind_of, IsDone};
 ghost use Rattle.status_lines.specs.Statuses.{told, fault_text, line_of};
 
-use crate::status::Status;
 use cell_text::{CellFault, texts};
 use command_words::UsageFault;
 use hall_text::RowFault;
 use io_edge::{Sink, write_whole};
 use itoa::Buffer;
+use run_status::Status;
 
 /// Writes the pieces of a line, one after another. A failed write leaves out the rest of the line.
 fn tell_pieces<E: Sink>(err: &mut E, pieces: &[&[u8]])
@@ -84,6 +84,8 @@ fn tell_refused<E: Sink>(err: &mut E, line: u32, fault: &CellFault)
         CellFault::NumberRange => tell_at(err, line, fault, texts::NUMBER_RANGE),
         CellFault::ZeroDenominator => tell_at(err, line, fault, texts::ZERO_DENOMINATOR),
         CellFault::MetricTwice => tell_at(err, line, fault, texts::METRIC_TWICE),
+        CellFault::KindTwice => tell_at(err, line, fault, texts::KIND_TWICE),
+        CellFault::KindLate => tell_at(err, line, fault, texts::KIND_LATE),
         CellFault::MetricMissing => tell_at(err, line, fault, texts::METRIC_MISSING),
         CellFault::MetricRange => tell_at(err, line, fault, texts::METRIC_RANGE),
         CellFault::NotPositive => tell_at(err, line, fault, texts::NOT_POSITIVE),

@@ -4,7 +4,7 @@ use Rattle.cell_text.specs.declared.atom_line.AtomLine.{AtomLine}
 use Rattle.cell_text.specs.Entries.{State}
 use Rattle.cell_text.specs.Views.{atom_view}
 use Rattle.cell_text.specs.Rules.{same_place}
-use Rattle.cell_text.proofs.Placing.{place-position, place-moment, place-wide, place-rest, Fits, placed_n, placed_k, placed_moments, placed_apart}
+use Rattle.cell_text.proofs.Placing.{place-position, place-moment, place-wide, place-rest, Fits, placed_n, placed_k, placed_moments, placed_apart, placed_kind}
 use Rattle.cell_text.proofs.Stepping.{judged_error}
 use Rattle.cell_text.proofs.reader.Reader.place.Goals as goal
 
@@ -35,9 +35,10 @@ invariant_of-self-2 c = record {
   k_within = c.in-Some-grown.ensures.1;
   moments_within = placed_moments c.self.inside c.args.self.now c.push.new.self.items c.args.atom c.in-Some-grown.k c.self.view_is (sym c.are_moments_in_range.ensures ∙ c.if-not-are_moments_in_range.false) c.in_ok-push.ensures.items;
   apart = placed_apart c.self.inside.atoms.items c.push.new.self.items c.args.atom c.self.invariant.apart (ap (λ (xs : List AtomLine). same_place (map atom_view xs) (atom_view c.args.atom)) (sym c.deref.ensures.value) ∙ c.in_ok-same_place.ensures) c.in_ok-push.ensures.items;
+  of_kind = placed_kind c.self.inside c.args.self.now c.push.new.self.items c.args.atom c.self.view_is c.self.invariant.of_kind c.requires.of_kind c.in_ok-push.ensures.items;
   positive = c.self.invariant.positive;
   ends = λ h. ((c.self.invariant.ends h).0, omega (arith, ap length c.in_ok-push.ensures.items, length-append c.self.inside.atoms.items (c.args.atom ∷ [])));
-  few = omega (arith, ap length c.in_ok-push.ensures.items, length-append c.self.inside.atoms.items (c.args.atom ∷ []), c.requires, ap (λ (s : State). length s.held.atoms) c.self.view_is, length-map c.self.inside.atoms.items atom_view);
+  few = omega (arith, ap length c.in_ok-push.ensures.items, length-append c.self.inside.atoms.items (c.args.atom ∷ []), c.requires.fewer, ap (λ (s : State). length s.held.atoms) c.self.view_is, length-map c.self.inside.atoms.items atom_view);
 }
 
 pub returns-clause-judged : goal.returns-clause-judged
