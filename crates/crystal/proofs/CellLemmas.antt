@@ -9,6 +9,7 @@ use Rattle.crystal_spec.specs.Crystals.{Site, Structure}
 use Rattle.crystal_spec.specs.Cells.{IsCell}
 use Rattle.crystal_spec.proofs.Entrywise.{matrix_same}
 use Rattle.crystal_spec.proofs.Images.{IsApart, one_atom_each_of_apart}
+use Rattle.crystal.specs.declared.limits.TheConstants.{MOST_ATOMS, MOST_NAMES}
 use Rattle.crystal.specs.Occupants.{NoneAt}
 use Rattle.crystal.specs.Cells.{IsCellWithinLimits, IsSiteOf, IsSymmetric, AreSitesOf, AreApart}
 
@@ -55,7 +56,7 @@ length_more : {X : Type 0} (xs : List X) (x : X) → length (xs ++ x ∷ []) ≡
 length_more xs x = length-append xs (x ∷ [])
 
 -- a cell with one atom more
-pub atom_more : (c : Structure) (x : Site) → IsCellWithinLimits c → IsSiteOf (length c.names) c.n c.kind x → NoneAt x.position c.sites → length c.sites < 512 → IsCellWithinLimits (record c { sites = c.sites ++ x ∷ [] })
+pub atom_more : (c : Structure) (x : Site) → IsCellWithinLimits c → IsSiteOf (length c.names) c.n c.kind x → NoneAt x.position c.sites → length c.sites < MOST_ATOMS → IsCellWithinLimits (record c { sites = c.sites ++ x ∷ [] })
 atom_more c x h k free few = record {
   positive = h.positive;
   symmetric = h.symmetric;
@@ -76,7 +77,7 @@ atom_more c x h k free few = record {
 }
 
 -- a cell with one name more
-pub name_more : (c : Structure) (name : List ℕ) → IsCellWithinLimits c → (IsMember name c.names → ⊥) → length c.names < 512 → IsCellWithinLimits (record c { names = c.names ++ name ∷ [] })
+pub name_more : (c : Structure) (name : List ℕ) → IsCellWithinLimits c → (IsMember name c.names → ⊥) → length c.names < MOST_NAMES → IsCellWithinLimits (record c { names = c.names ++ name ∷ [] })
 name_more c name h new fewer = record {
   positive = h.positive;
   symmetric = h.symmetric;

@@ -1,7 +1,7 @@
 -- The cells that the code holds: atom by atom, and with the bounds of their sizes.
---   IsCellWithinLimits c   c is a cell: a positive metric tensor, units within bounds, up to 512 names that differ, and 1 to
---                          512 atoms within the cell, of named species and with moments of the cell's kind, no two at one
---                          position
+--   IsCellWithinLimits c   c is a cell: a positive metric tensor, units within bounds, up to MOST_NAMES names that differ,
+--                          and 1 to MOST_ATOMS atoms within the cell, of named species and with moments of the cell's kind, no
+--                          two at one position
 -- Each is a cell as `IsCell` of crystal_spec defines it.
 use Rattle.std.specs.Prelude.{◌≡◌, ℕ, pos, ◌*◌, ◌^◌, ◌<◌, ◌≤◌, ◌≤ℤ◌, List, [], ◌∷◌, length, slice_get, Some}
 use Rattle.crystal_spec.specs.Increasing.{IsDistinct}
@@ -10,6 +10,7 @@ use Rattle.crystal_spec.specs.Matrices.{Matrix}
 use Rattle.crystal_spec.specs.Moments.{IsOfKind}
 use Rattle.crystal_spec.specs.Crystals.{Site, Structure, IsPositive}
 use Rattle.crystal_spec.specs.Operations.{IsWithinCell}
+use Rattle.crystal.specs.declared.limits.TheConstants.{MOST_ATOMS, MOST_NAMES}
 use Rattle.crystal.specs.Bounds.{EntriesAtMost, CoordinatesAtMost}
 use Rattle.crystal.specs.Occupants.{NoneAt}
 
@@ -46,9 +47,9 @@ pub record IsCellWithinLimits (c : Structure) : Type 0 where
   pub k_at_least : 1 ≤ c.k
   pub k_at_most : c.k ≤ 10 ^ 6
   pub names_differ : IsDistinct c.names
-  pub few_names : length c.names ≤ 512
+  pub few_names : length c.names ≤ MOST_NAMES
   pub some : 1 ≤ length c.sites
-  pub few : length c.sites ≤ 512
+  pub few : length c.sites ≤ MOST_ATOMS
   pub first : (site : Site) → slice_get c.sites 0 ≡ Some site → site.species ≡ 0
   pub sites : AreSitesOf (length c.names) c.n c.kind c.sites
   pub apart : AreApart c.sites

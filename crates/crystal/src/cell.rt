@@ -10,6 +10,7 @@ ghost use Rattle.crystal.specs.Bounds.{EntriesAtMost, CoordinatesAtMost};
 ghost use Rattle.crystal.specs.Cells.{IsCellWithinLimits, IsSiteOf};
 
 use crate::atom::Atom;
+use crate::limits::{MOST_ATOMS, MOST_NAMES};
 use crate::metric::Metric;
 use crate::name::Name;
 use crate::occupant::find_occupant;
@@ -22,8 +23,8 @@ use std::marker::Model;
 /// A cell of a magnetic crystal: its metric tensor in units of 1/scale, the names of its species, and its atoms.
 ///
 /// The metric tensor is positive, with entries of size up to 10^16, and the scale is from 1 to 10^16. Positions are in
-/// units of 1/n, moments in units of 1/k, n and k from 1 to 10^6. All moments are of one kind. There are up to 512 names,
-/// and 1 to 512 atoms, no two at one position.
+/// units of 1/n, moments in units of 1/k, n and k from 1 to 10^6. All moments are of one kind. There are up to `MOST_NAMES`
+/// names, and 1 to `MOST_ATOMS` atoms, no two at one position.
 #[derive(Drop)]
 pub struct Cell {
     names: Vec<Name>,
@@ -102,12 +103,12 @@ impl Cell {
         })
     }
 
-    /// Adds the name of a further species, up to 512 names, and gives its number.
+    /// Adds the name of a further species, up to `MOST_NAMES` names, and gives its number.
     ///
     /// Refuses for want of memory alone, and then leaves the cell as it was.
     pub fn add_name(&mut self, name: Name) -> Result<u16, AllocError>
         requires new { IsMember name self.old.names → ⊥ }
-        requires fewer { length self.old.names < 512 }
+        requires fewer { length self.old.names < MOST_NAMES }
         ensures number { IfOk result (λ number. number ≡ length self.old.names) }
         ensures value { OnOk result (self.new ≡ record self.old { names = self.old.names ++ name ∷ [] }) }
         ensures unchanged { OnErr result (self.new ≡ self.old) }
@@ -123,7 +124,7 @@ impl Cell {
     pub fn add(&mut self, atom: Atom) -> Result<(), AllocError>
         requires site { IsSiteOf (length self.old.names) self.old.n self.old.kind (site_of atom) }
         requires free { NoneAt (triple_of atom.place) self.old.sites }
-        requires fewer { length self.old.sites < 512 }
+        requires fewer { length self.old.sites < MOST_ATOMS }
         ensures value { OnOk result (self.new ≡ record self.old { sites = self.old.sites ++ site_of atom ∷ [] }) }
         ensures unchanged { OnErr result (self.new ≡ self.old) }
     {
@@ -166,7 +167,7 @@ impl Cell {
         self.kind
     }
 
-    /// How many atoms the cell has, 1 to 512.
+    /// How many atoms the cell has, 1 to `MOST_ATOMS`.
     pub fn count(&self) -> usize
         ensures value { result ≡ length self.now.sites }
         ensures cell { IsCell self.now }
@@ -175,7 +176,7 @@ impl Cell {
         self.atoms.len()
     }
 
-    /// How many species have a name, up to 512.
+    /// How many species have a name, up to `MOST_NAMES`.
     pub fn names(&self) -> usize
         ensures { result ≡ length self.now.names }
     {

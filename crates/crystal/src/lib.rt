@@ -8,6 +8,7 @@
 mod atom;
 mod carrying;
 mod cell;
+mod limits;
 mod mapping;
 mod metric;
 mod moments;
@@ -22,6 +23,7 @@ mod tests;
 pub use atom::Atom;
 pub use cell::Cell;
 pub use crystal_spec::{MomentKind, Sign};
+pub use limits::{MOST_ATOMS, MOST_NAMES};
 pub use mapping::translation_onto;
 pub use metric::Metric;
 pub use moments::{moment_matrix, turn_matrix};

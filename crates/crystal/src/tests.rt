@@ -6,7 +6,7 @@ ghost use Rattle.crystal_spec.specs.Crystals.{IsPositive};
 ghost use Rattle.crystal.specs.Views.{metric_of};
 ghost use Rattle.crystal.specs.Bounds.{EntriesAtMost, CoordinatesAtMost};
 
-use crate::{Atom, Cell, Metric, MomentKind, Name, Places, Sign, Steps};
+use crate::{Atom, Cell, MOST_ATOMS, Metric, MomentKind, Name, Places, Sign, Steps};
 use crystal_spec::Sign::{Reversed, Same};
 use exact_num::Int;
 use matrix3::{Mat3, Vec3};
@@ -145,7 +145,7 @@ fn put(alloc: Global, cell: &mut Cell, atom: Atom) -> Option<()>
     if x >= n || y >= n || z >= n {
         return None;
     }
-    if atom.species as usize >= cell.names() || cell.count() >= 512 || !cell.kind().vector {
+    if atom.species as usize >= cell.names() || cell.count() >= MOST_ATOMS || !cell.kind().vector {
         return None;
     }
     let index = cell.index(alloc).ok()?;

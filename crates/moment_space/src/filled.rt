@@ -17,7 +17,7 @@ ghost use Rattle.moment_space.specs.Filled.{IsSiteAt, IsFilledAt, HasOneMomentAt
 ghost use Rattle.moment_space.specs.Carried.{HasUnitDeterminants, IsCarriedMoment, ReplacesAt, AreReplaced, HasReplaced, started};
 
 use crate::average::projector;
-use crystal::{Atom, Cell, MomentKind, moment_matrix, translation_onto};
+use crystal::{Atom, Cell, MOST_NAMES, MomentKind, moment_matrix, translation_onto};
 use exact_num::Int;
 use matrix3::Vec3;
 use op_group::{Op, OpList};
@@ -135,7 +135,7 @@ fn started(alloc: Global, cell: &Cell, first: Atom) -> Result<Cell, AllocError>
 fn add_names(made: &mut Cell, cell: &Cell) -> Result<(), AllocError>
     requires first { made.old.names ≡ take 1 cell.now.names }
     requires differ { IsDistinct cell.now.names }
-    requires few { length cell.now.names ≤ 512 }
+    requires few { length cell.now.names ≤ MOST_NAMES }
     ensures { OnOk result (made.new ≡ record made.old { names = cell.now.names }) }
 {
     for species in 1..cell.names() {

@@ -9,6 +9,7 @@ use Rattle.crystal_spec.specs.Moments.{IsOfKind}
 use Rattle.crystal_spec.specs.Crystals.{Site, Structure}
 use Rattle.crystal_spec.specs.Operations.{IsWithinCell}
 use Rattle.crystal_spec.proofs.Moments.{turn-of_kind}
+use Rattle.crystal.specs.declared.limits.TheConstants.{MOST_ATOMS}
 use Rattle.crystal.specs.Bounds.{CoordinatesAtMost}
 use Rattle.crystal.specs.Cells.{IsCellWithinLimits, IsSiteOf}
 use Rattle.basis_spec.specs.Metrics.{metric_in}
@@ -65,7 +66,7 @@ taken_length (suc i) [] = omega arith
 taken_length (suc i) (x ∷ xs) = let h = taken_length i xs in omega (arith, h)
 
 -- fewer atoms than the cell has are there before the last
-pub few_so_far : (f : Site → Site) (sites : List Site) (i : ℕ) → i < length sites → length sites ≤ 512 → length (first_at_each_position (map f (take i sites))) < 512
+pub few_so_far : (f : Site → Site) (sites : List Site) (i : ℕ) → i < length sites → length sites ≤ MOST_ATOMS → length (first_at_each_position (map f (take i sites))) < MOST_ATOMS
 few_so_far f sites i h k =
     let p = firsts_length (map f (take i sites)) in
     let q = length-map (take i sites) f in

@@ -15,6 +15,7 @@ use Rattle.crystal_spec.proofs.Identities.{by_integers}
 use Rattle.crystal_spec.proofs.Isometries.{determinant-product}
 use Rattle.lattice_spec.specs.Tensor.{Tensor, tensor_matrix}
 use Rattle.lattice_spec.specs.Niggli.{IsNiggli}
+use Rattle.crystal.specs.declared.limits.TheConstants.{MOST_ATOMS}
 use Rattle.crystal.specs.Bounds.{EntriesAtMost}
 use Rattle.op_group.specs.Lists.{OperationList}
 use Rattle.basis_spec.specs.Metrics.{matrix_multiple, metric_in}
@@ -55,7 +56,7 @@ determinant_inverse base q one e =
 at_least : (i : ℕ) (d : ℤ) → pos i ≡ d → pos 1 ≤ℤ d → 1 ≤ i
 at_least i d e h = omega (arith, ints, e, h)
 
-module _ (c : Structure) (cell : IsCell c) (few : length c.sites ≤ 512) (os : List Operation) (lists : ListsPureTranslations c os) (index : ℕ) (back fore : Matrix) (steps : IsSteps c.n (InLattice c.n os) index back fore)
+module _ (c : Structure) (cell : IsCell c) (few : length c.sites ≤ MOST_ATOMS) (os : List Operation) (lists : ListsPureTranslations c os) (index : ℕ) (back fore : Matrix) (steps : IsSteps c.n (InLattice c.n os) index back fore)
     (s : Tensor ℤ) (base q : Matrix) (reduction : IsReduction (metric_in fore c.metric) (tensor_matrix s) base q) (small : EntriesAtMost (10 ^ 9) c.metric) where
   -- where the metric tensor is reduced already, the basis is the triangular one
   kept : TakesToStepBasis c os (product q back)
@@ -75,7 +76,7 @@ module _ (c : Structure) (cell : IsCell c) (few : length c.sites ≤ 512) (os : 
       let inverse = fore_then (pos index) fore back base q steps.fore_is reduction.inverse in
       let fore_is : product fore base ≡ adjugate r = fore_is_adjugate index (product fore base) r above p.index_is inverse in
       let metric_is : tensor_matrix s ≡ metric_in (adjugate r) c.metric = sym reduction.metric ∙ sym (metric_in-product fore base c.metric) ∙ ap (λ (m : Matrix). metric_in m c.metric) fore_is in
-      let most : index ≤ 512 = subst (λ (n : ℕ). n ≤ 512) p.count (few_pure c cell few os lists) in
+      let most : index ≤ MOST_ATOMS = subst (λ (n : ℕ). n ≤ MOST_ATOMS) p.count (few_pure c cell few os lists) in
       let turned : metric_in r (tensor_matrix s) ≡ matrix_multiple (pos index *ℤ pos index) c.metric = ap (metric_in r) metric_is ∙ metric_in-metric_in_adjugate r c.metric ∙ ap (λ (d : ℤ). matrix_multiple (d *ℤ d) c.metric) (sym p.index_is) in
       let entries = back_small s c.metric r index reduction.niggli.main turned most small in
       record {
@@ -91,7 +92,7 @@ module _ (c : Structure) (cell : IsCell c) (few : length c.sites ≤ 512) (os : 
         kept = kept;
         metric_entries = reduction.entries;
         back_entries = entries;
-        fore_entries = subst (EntriesAtMost (2 * 10 ^ 15)) (sym fore_is) (fore_small r entries);
+        fore_entries = subst (EntriesAtMost (5 * 10 ^ 15)) (sym fore_is) (fore_small r entries);
         at_least = at_least index (determinant r) p.index_is up;
         at_most = most;
       }

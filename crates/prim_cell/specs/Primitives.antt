@@ -12,6 +12,7 @@ use Rattle.crystal_spec.specs.Crystals.{Site, Structure, IsPositive}
 use Rattle.crystal_spec.specs.Increasing.{IsMember}
 use Rattle.crystal_spec.specs.Operations.{Operation}
 use Rattle.lattice_spec.specs.Niggli.{IsNiggli}
+use Rattle.crystal.specs.declared.limits.TheConstants.{MOST_ATOMS}
 use Rattle.crystal.specs.Bounds.{EntriesAtMost}
 use Rattle.op_group.specs.Lists.{OperationList}
 use Rattle.basis_spec.specs.Positions.{residue}
@@ -58,8 +59,8 @@ pub record IsPrimitiveCell (p : PrimitiveCell) : Type 0 where
   pub pure : (o : Operation) → IsMember o p.shifts.operations → o ≡ pure_translation o.translation
   pub primitive : IsPrimitive p.cell
   pub niggli : IsNiggli p.cell.metric
-  pub back_entries : EntriesAtMost (25 * 10 ^ 6) p.back
-  pub fore_entries : EntriesAtMost (2 * 10 ^ 15) p.fore
+  pub back_entries : EntriesAtMost (50 * 10 ^ 6) p.back
+  pub fore_entries : EntriesAtMost (5 * 10 ^ 15) p.fore
   pub positions : (a : Site) → IsMember a p.cell.sites → IsImageModulo p.cell.n p.back a.position
   pub metric : ComesFromMetric p.index p.back p.cell.metric
 
@@ -76,7 +77,7 @@ pub record IsReducedBasis (c : Structure) (os : List Operation) (index : ℕ) (b
   pub positive : IsPositive metric
   pub kept : TakesToStepBasis c os back
   pub metric_entries : EntriesAtMost (10 ^ 16) metric
-  pub back_entries : EntriesAtMost (25 * 10 ^ 6) back
-  pub fore_entries : EntriesAtMost (2 * 10 ^ 15) fore
+  pub back_entries : EntriesAtMost (50 * 10 ^ 6) back
+  pub fore_entries : EntriesAtMost (5 * 10 ^ 15) fore
   pub at_least : 1 ≤ index
-  pub at_most : index ≤ 512
+  pub at_most : index ≤ MOST_ATOMS

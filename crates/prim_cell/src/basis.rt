@@ -8,7 +8,7 @@ ghost use Rattle.basis_spec.specs.Metrics.{metric_in};
 ghost use Rattle.basis_spec.specs.Translations.{ListsPureTranslations};
 ghost use Rattle.prim_cell.specs.Primitives.{IsReducedBasis};
 
-use crystal::{Cell, Metric};
+use crystal::{Cell, MOST_ATOMS, Metric};
 use exact_num::Int;
 use lattice_reduce::reduce;
 use matrix3::Mat3;
@@ -27,7 +27,7 @@ pub(crate) struct Basis {
 fn changed_metric(g: &Mat3<Int>, p: &Mat3<Int>) -> Metric
     requires symmetric { transposed g.now ≡ g.now }
     requires metric { EntriesAtMost (10 ^ 9) g.now }
-    requires columns { EntriesAtMost 512 p.now }
+    requires columns { EntriesAtMost MOST_ATOMS p.now }
     ensures { metric_of result ≡ metric_in p.now g.now }
 {
     let changed = p.transpose().times(&g.times(p));

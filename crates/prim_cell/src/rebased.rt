@@ -16,7 +16,7 @@ ghost use Rattle.prim_cell.specs.Sizes.{HasMomentsAtMost};
 ghost use Rattle.prim_cell.specs.Rebasing.{with_atoms, started};
 
 use crate::names::{add_names, copied};
-use crystal::{Atom, Cell, Metric, MomentKind, turn_matrix};
+use crystal::{Atom, Cell, MOST_ATOMS, Metric, MomentKind, turn_matrix};
 use exact_num::{Exact, Int, Residue};
 use matrix3::{Mat3, Vec3};
 use std::alloc::{AllocError, Global};
@@ -52,7 +52,7 @@ fn folded(z: Int, n: u32) -> u32
 
 /// A position in the basis to which R takes coordinates, modulo n.
 fn place_in_basis(r: &Mat3<Int>, place: [u32; 3], n: u32) -> [u32; 3]
-    requires basis { EntriesAtMost 25000000 r.now }
+    requires basis { EntriesAtMost 50000000 r.now }
     requires at_least { 1 ≤ n }
     requires at_most { n ≤ 10 ^ 6 }
     ensures { triple_of result ≡ residue n (image r.now (triple_of place)) }
@@ -63,7 +63,7 @@ fn place_in_basis(r: &Mat3<Int>, place: [u32; 3], n: u32) -> [u32; 3]
 
 /// An atom with a moment of this kind in the basis to which R takes coordinates, brought into the cell.
 fn atom_in_basis(r: &Mat3<Int>, kind: MomentKind, atom: &Atom, n: u32) -> Atom
-    requires basis { EntriesAtMost 25000000 r.now }
+    requires basis { EntriesAtMost 50000000 r.now }
     requires moment { CoordinatesAtMost (10 ^ 9) atom.now.moment }
     requires at_least { 1 ≤ n }
     requires at_most { n ≤ 10 ^ 6 }
@@ -100,7 +100,7 @@ fn is_free(cell: &Cell, place: [u32; 3]) -> bool
 /// Adds the atom, unless one is at its position.
 fn put(made: &mut Cell, atom: Atom) -> Result<(), AllocError>
     requires site { IsSiteOf (length made.old.names) made.old.n made.old.kind (site_of atom) }
-    requires fewer { length made.old.sites < 512 }
+    requires fewer { length made.old.sites < MOST_ATOMS }
     ensures { OnOk result ((sites : List Site) → made.old.sites ≡ first_at_each_position sites → made.new ≡ record made.old { sites = first_at_each_position (sites ++ site_of atom ∷ []) }) }
 {
     if is_free(made, atom.place) {
@@ -113,7 +113,7 @@ fn put(made: &mut Cell, atom: Atom) -> Result<(), AllocError>
 ///
 /// Refuses for want of memory alone.
 fn add_atoms(made: &mut Cell, cell: &Cell, r: &Mat3<Int>) -> Result<(), AllocError>
-    requires basis { EntriesAtMost 25000000 r.now }
+    requires basis { EntriesAtMost 50000000 r.now }
     requires moments { HasMomentsAtMost (10 ^ 9) cell.now }
     requires n { made.old.n ≡ cell.now.n }
     requires kind { made.old.kind ≡ cell.now.kind }
@@ -139,8 +139,8 @@ fn first_in_basis(
 ) -> Result<Cell, AllocError>
     requires index { pos index ≡ determinant r.now }
     requires at_least { 1 ≤ index }
-    requires at_most { index ≤ 512 }
-    requires basis { EntriesAtMost 25000000 r.now }
+    requires at_most { index ≤ MOST_ATOMS }
+    requires basis { EntriesAtMost 50000000 r.now }
     requires metric { metric_of metric ≡ metric_in (adjugate r.now) cell.now.metric }
     requires positive { IsPositive (metric_of metric) }
     requires entries { EntriesAtMost (10 ^ 16) (metric_of metric) }
@@ -169,8 +169,8 @@ pub(crate) fn rebased(
 ) -> Result<Cell, AllocError>
     requires index { pos index ≡ determinant r.now }
     requires at_least { 1 ≤ index }
-    requires at_most { index ≤ 512 }
-    requires basis { EntriesAtMost 25000000 r.now }
+    requires at_most { index ≤ MOST_ATOMS }
+    requires basis { EntriesAtMost 50000000 r.now }
     requires metric { metric_of metric ≡ metric_in (adjugate r.now) cell.now.metric }
     requires positive { IsPositive (metric_of metric) }
     requires entries { EntriesAtMost (10 ^ 16) (metric_of metric) }

@@ -52,7 +52,7 @@ fn is_among(images: &[[u32; 3]], place: [u32; 3]) -> bool
 /// The number of the first atom whose position in the basis to which R takes coordinates is one of the images, or `i` where
 /// none before the atom number i is.
 pub(crate) fn first_among(cell: &Cell, r: &Mat3<Int>, images: &[[u32; 3]], i: usize) -> usize
-    requires basis { EntriesAtMost 25000000 r.now }
+    requires basis { EntriesAtMost 50000000 r.now }
     requires below { i < length cell.now.sites }
     ensures { IsFirstAmong cell.now.n r.now (map triple_of images.now) cell.now.sites i result }
 {

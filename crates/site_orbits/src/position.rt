@@ -58,7 +58,7 @@ fn folded(z: Int, n: u32) -> u32
 ///
 /// In units of 1/n, n from 1 to 10^6; the entries of R have size up to 25,000,000. It takes no memory.
 pub fn place_in_basis(r: &Mat3<Int>, place: [u32; 3], n: u32) -> [u32; 3]
-    requires basis { EntriesAtMost 25000000 r.now }
+    requires basis { EntriesAtMost 50000000 r.now }
     requires at_least { 1 ≤ n }
     requires at_most { n ≤ 10 ^ 6 }
     ensures { triple_of result ≡ residue n (image r.now (triple_of place)) }

@@ -2,6 +2,7 @@
 use Rattle.std.proofs.Common.{◌≡◌, ℕ, zero, suc, ◌<◌, ◌≤◌, List, [], ◌∷◌, length, map, take, refl, sym, ap, ◌∙◌, arith}
 use Rattle.std.specs.Prelude.{slice_get, Some}
 use Rattle.crystal_spec.specs.Crystals.{Site}
+use Rattle.crystal.specs.declared.limits.TheConstants.{MOST_ATOMS}
 use Rattle.crystal.specs.Occupants.{NoneAt}
 use Rattle.crystal.specs.Cells.{AreApart}
 use Rattle.crystal.specs.declared.atom.Atom.{Atom}
@@ -19,7 +20,7 @@ apart_before (y ∷ xs) (suc i) x h e = (λ same. elsewhere xs i h.0 e (sym same
     elsewhere (z ∷ ys) (suc j) none e same = elsewhere ys j none.1 e same
 
 -- fewer before an atom than there are
-pub fewer_before : (xs : List Site) (i : ℕ) → i < length xs → length xs ≤ 512 → length (take i xs) < 512
+pub fewer_before : (xs : List Site) (i : ℕ) → i < length xs → length xs ≤ MOST_ATOMS → length (take i xs) < MOST_ATOMS
 fewer_before xs i h k = let l = length_take xs i in omega (arith, l, h, k)
   where
     length_take : (ys : List Site) (j : ℕ) → length (take j ys) ≤ j

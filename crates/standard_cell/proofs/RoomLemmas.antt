@@ -10,6 +10,7 @@ use Rattle.crystal_spec.specs.Increasing.{IsMember}
 use Rattle.crystal_spec.specs.Crystals.{Site, Structure, IsPositive}
 use Rattle.crystal_spec.specs.Cells.{IsCell}
 use Rattle.crystal_spec.proofs.Moments.{turn-of_kind}
+use Rattle.crystal.specs.declared.limits.TheConstants.{MOST_ATOMS}
 use Rattle.crystal.specs.Views.{metric_of}
 use Rattle.crystal.specs.Bounds.{EntriesAtMost, CoordinatesAtMost}
 use Rattle.crystal.specs.Cells.{IsSiteOf, AreSitesOf, IsCellWithinLimits}
@@ -90,7 +91,7 @@ module _ (c : Structure) (q : Matrix) (p : Point) (u : Units) (form : IsCellWith
   -- it is within the limits where there is room
   pub limits_of_room : HasRoom c q u → (sites : List Site) → AreBlocks c q p (unsigned_abs u.n) c.sites sites → IsWithinLimits (cell_with sites)
   limits_of_room room sites h = record {
-    atoms = subst (λ (k : ℕ). k ≤ 512) (sym (count_is (cell_with sites) (standard_with sites h))) room.atoms;
+    atoms = subst (λ (k : ℕ). k ≤ MOST_ATOMS) (sym (count_is (cell_with sites) (standard_with sites h))) room.atoms;
     n = few (unsigned_abs u.n) (subst (λ (z : ℤ). z ≤ℤ pos (10 ^ 6)) (sym m_is) room.n);
     k = room.k;
     metric = room.metric;
@@ -105,7 +106,7 @@ module _ (c : Structure) (q : Matrix) (p : Point) (u : Units) (form : IsCellWith
   room_of_limits s st fits =
       let n = denominator_unique c q p s.n (unsigned_abs u.n) st.n least in
       record {
-        atoms = subst (λ (k : ℕ). k ≤ 512) (count_is s st) fits.atoms;
+        atoms = subst (λ (k : ℕ). k ≤ MOST_ATOMS) (count_is s st) fits.atoms;
         n = subst (λ (z : ℤ). z ≤ℤ pos (10 ^ 6)) (ap pos n ∙ m_is) (as_integer s.n fits.n);
         k = subst (λ (k : ℕ). k ≤ 10 ^ 6) (st.k ∙ sym units.k_is) fits.k;
         metric = subst (EntriesAtMost (10 ^ 16)) (st.metric ∙ sym units.metric_is) fits.metric;

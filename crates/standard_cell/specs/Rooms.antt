@@ -6,6 +6,7 @@ use Rattle.crystal_spec.specs.Matrices.{Matrix, image, determinant, adjugate}
 use Rattle.crystal_spec.specs.Moments.{turn_matrix, divisor}
 use Rattle.crystal_spec.specs.Increasing.{IsMember}
 use Rattle.crystal_spec.specs.Crystals.{Site, Structure}
+use Rattle.crystal.specs.declared.limits.TheConstants.{MOST_ATOMS}
 use Rattle.crystal.specs.Views.{metric_of}
 use Rattle.crystal.specs.Bounds.{EntriesAtMost, CoordinatesAtMost}
 use Rattle.basis_spec.specs.Metrics.{metric_in}
@@ -20,9 +21,9 @@ pub record AreUnits (c : Structure) (q : Matrix) (p : Point) (u : Units) : Type 
   pub k_is : u.k ≡ divisor c.kind (unsigned_abs (determinant q)) * c.k
   pub metric_is : metric_of u.metric ≡ metric_in q c.metric
 
--- at most 512 atoms, n and k up to 10^6, entries of the metric tensor up to 10^16 and moments up to 2 · 10^27
+-- at most MOST_ATOMS atoms, n and k up to 10^6, entries of the metric tensor up to 10^16 and moments up to 2 · 10^27
 pub record HasRoom (c : Structure) (q : Matrix) (u : Units) : Type 0 where
-  pub atoms : unsigned_abs (determinant q) * length c.sites ≤ 512
+  pub atoms : unsigned_abs (determinant q) * length c.sites ≤ MOST_ATOMS
   pub n : u.n ≤ℤ pos (10 ^ 6)
   pub k : u.k ≤ 10 ^ 6
   pub metric : EntriesAtMost (10 ^ 16) (metric_of u.metric)

@@ -15,7 +15,7 @@ ghost use Rattle.standard_cell.specs.Rooms.{AreUnits, HasRoom};
 
 use crate::divisor::place_divisor;
 use crate::frame::{Frame, full};
-use crystal::{Cell, Metric, turn_matrix};
+use crystal::{Cell, MOST_ATOMS, Metric, turn_matrix};
 use exact_num::Int;
 use matrix3::{Mat3, Vec3};
 
@@ -127,12 +127,12 @@ fn are_moments(cell: &Cell, turn: &Mat3<Int>) -> bool
     true
 }
 
-/// Whether the standard cell has at most 512 atoms: so many for each atom as the determinant of Q says.
+/// Whether the standard cell has at most `MOST_ATOMS` atoms: so many for each atom as the determinant of Q says.
 fn is_few(frame: &Frame, cell: &Cell) -> bool
     requires { IsFrame frame.now }
-    ensures { IsTrue result ↔ (frame.now.index * length cell.now.sites ≤ 512) }
+    ensures { IsTrue result ↔ (frame.now.index * length cell.now.sites ≤ MOST_ATOMS) }
 {
-    frame.index as usize * cell.count() <= 512
+    frame.index as usize * cell.count() <= MOST_ATOMS
 }
 
 /// Whether an exact number is at most 10^6.

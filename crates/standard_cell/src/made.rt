@@ -9,7 +9,7 @@ ghost use Rattle.crystal.specs.Cells.{AreSitesOf, AreApart};
 
 use crate::integers::natural;
 use crate::limits::Units;
-use crystal::{Atom, Cell};
+use crystal::{Atom, Cell, MOST_ATOMS, MOST_NAMES};
 use std::alloc::{AllocError, Global};
 
 /// Adds the names of a cell, of which the first is there.
@@ -18,7 +18,7 @@ use std::alloc::{AllocError, Global};
 fn add_names(made: &mut Cell, cell: &Cell) -> Result<(), AllocError>
     requires first { made.old.names ≡ take 1 cell.now.names }
     requires differ { IsDistinct cell.now.names }
-    requires few { length cell.now.names ≤ 512 }
+    requires few { length cell.now.names ≤ MOST_NAMES }
     ensures { OnOk result (made.new ≡ record made.old { names = cell.now.names }) }
 {
     for species in 1..cell.names() {
@@ -34,7 +34,7 @@ fn add_atoms(made: &mut Cell, atoms: &[Atom]) -> Result<(), AllocError>
     requires first { made.old.sites ≡ take 1 (map site_of atoms.now) }
     requires sites { AreSitesOf (length made.old.names) made.old.n made.old.kind (map site_of atoms.now) }
     requires apart { AreApart (map site_of atoms.now) }
-    requires few { length (map site_of atoms.now) ≤ 512 }
+    requires few { length (map site_of atoms.now) ≤ MOST_ATOMS }
     ensures { OnOk result (made.new ≡ record made.old { sites = map site_of atoms.now }) }
 {
     for i in 1..atoms.len() {
@@ -59,7 +59,7 @@ pub(crate) fn cell_of(
     requires positive { IsPositive (metric_of units.now.metric) }
     requires entries { EntriesAtMost (10 ^ 16) (metric_of units.now.metric) }
     requires some { 1 ≤ length (map site_of atoms.now) }
-    requires few { length (map site_of atoms.now) ≤ 512 }
+    requires few { length (map site_of atoms.now) ≤ MOST_ATOMS }
     requires first { (site : Site) → slice_get (map site_of atoms.now) 0 ≡ Some site → site.species ≡ 0 }
     requires sites { AreSitesOf (length cell.now.names) (unsigned_abs units.now.n) cell.now.kind (map site_of atoms.now) }
     requires apart { AreApart (map site_of atoms.now) }

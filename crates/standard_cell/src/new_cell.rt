@@ -43,7 +43,7 @@ fn cell_in_frame(alloc: Global, frame: &Frame, cell: &Cell) -> Result<Option<Cel
 /// The metric tensor is QᵀGQ. The atoms are at the places x, each coordinate at least 0 and below 1, for which Q x + p is the
 /// position of an atom; they are ordered by the atom of the primitive cell to which they belong, then by x. Positions are in
 /// units of 1/n with the least n, moments of vectors in units of 1 / (k det(Q)), those of scalars in units of 1/k. `None`
-/// comes exactly where there are more than 512 atoms, n or k passes 10^6, an entry of the metric tensor 10^16 in size, or a
+/// comes exactly where there are more than 1,024 atoms, n or k passes 10^6, an entry of the metric tensor 10^16 in size, or a
 /// component of a moment 2 · 10^27 in size. Asks that Q has entries of size up to 5184 and a determinant from 1 to 1728, and
 /// that each coordinate of p is at least 0 and below 1, as each map of `match_row` has. Refuses for want of memory alone.
 pub fn standard(alloc: Global, prim: &Primitive, map: &Map) -> Result<Option<Cell>, AllocError>

@@ -7,7 +7,7 @@ use Rattle.mag_ops.proofs.carried.column_in_cell.Goals as goal
 
 pub apply-times_index-requires-clause-fits : goal.apply-times_index-requires-clause-fits
 apply-times_index-requires-clause-fits c =
-    image_fits (2 * 10 ^ 15) (2 ^ 32) _ _ (lit≤ tt) (subst (EntriesAtMost (2 * 10 ^ 15)) (sym c.fore.ensures) c.index-index.ensures.form.fore_entries) c.requires
+    image_fits (5 * 10 ^ 15) (2 ^ 32) _ _ (lit≤ tt) (subst (EntriesAtMost (5 * 10 ^ 15)) (sym c.fore.ensures) c.index-index.ensures.form.fore_entries) c.requires
 
 pub returns-clause-found : goal.returns-clause-found
 returns-clause-found c =
@@ -28,8 +28,8 @@ returns-clause-size c =
     let p = c.args.prim.now in
     let v = c.args.column.now in
     let form = c.index-index.ensures.form in
-    let m = 2 * 10 ^ 15 * 2 ^ 32 + 2 * 10 ^ 15 * 2 ^ 32 + 2 * 10 ^ 15 * 2 ^ 32 in
+    let m = 5 * 10 ^ 15 * 2 ^ 32 + 5 * 10 ^ 15 * 2 ^ 32 + 5 * 10 ^ 15 * 2 ^ 32 in
     let is : c.apply-times_index.result ≡ image p.fore v = c.apply-times_index.ensures.value ∙ ap (λ (a : Matrix). image a v) c.fore.ensures in
-    let large = subst (CoordinatesAtMost m) (sym is) (at_most_image (2 * 10 ^ 15) (2 ^ 32) p.fore v form.fore_entries c.requires) in
+    let large = subst (CoordinatesAtMost m) (sym is) (at_most_image (5 * 10 ^ 15) (2 ^ 32) p.fore v form.fore_entries c.requires) in
     let some = subst (λ (k : ℕ). 1 ≤ k) (sym c.index-index.ensures.value) (index_at_least p form) in
     some_then c.divided.result (λ t e. coordinates_grown {v = t} (lit≤ tt) (column_small c.index-index.result m c.apply-times_index.result t some e large)) c.divided.ensures.found

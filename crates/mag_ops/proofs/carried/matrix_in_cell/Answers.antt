@@ -7,27 +7,27 @@ use Rattle.mag_ops.proofs.carried.matrix_in_cell.Goals as goal
 
 pub times-turned-requires-clause-fits : goal.times-turned-requires-clause-fits
 times-turned-requires-clause-fits c =
-    product_fits 1 (25 * 10 ^ 6) _ _ (lit≤ tt) c.requires (subst (EntriesAtMost (25 * 10 ^ 6)) (sym c.back.ensures) c.index-index.ensures.form.back_entries)
+    product_fits 1 (50 * 10 ^ 6) _ _ (lit≤ tt) c.requires (subst (EntriesAtMost (50 * 10 ^ 6)) (sym c.back.ensures) c.index-index.ensures.form.back_entries)
 
 pub column_in_cell-requires : goal.column_in_cell-requires
 column_in_cell-requires c =
-    let m = 1 * (25 * 10 ^ 6) + 1 * (25 * 10 ^ 6) + 1 * (25 * 10 ^ 6) in
-    let back = subst (EntriesAtMost (25 * 10 ^ 6)) (sym c.back.ensures) c.index-index.ensures.form.back_entries in
-    let small = subst (EntriesAtMost m) (sym c.times-turned.ensures.value) (at_most_product 1 (25 * 10 ^ 6) c.args.v.now c.back.result.now c.requires back) in
+    let m = 1 * (50 * 10 ^ 6) + 1 * (50 * 10 ^ 6) + 1 * (50 * 10 ^ 6) in
+    let back = subst (EntriesAtMost (50 * 10 ^ 6)) (sym c.back.ensures) c.index-index.ensures.form.back_entries in
+    let small = subst (EntriesAtMost m) (sym c.times-turned.ensures.value) (at_most_product 1 (50 * 10 ^ 6) c.args.v.now c.back.result.now c.requires back) in
     record { x = grown (lit≤ tt) small.a11; y = grown (lit≤ tt) small.a21; z = grown (lit≤ tt) small.a31 }
 
 pub column_in_cell-requires-2 : goal.column_in_cell-requires-2
 column_in_cell-requires-2 c =
-    let m = 1 * (25 * 10 ^ 6) + 1 * (25 * 10 ^ 6) + 1 * (25 * 10 ^ 6) in
-    let back = subst (EntriesAtMost (25 * 10 ^ 6)) (sym c.back.ensures) c.index-index.ensures.form.back_entries in
-    let small = subst (EntriesAtMost m) (sym c.times-turned.ensures.value) (at_most_product 1 (25 * 10 ^ 6) c.args.v.now c.back.result.now c.requires back) in
+    let m = 1 * (50 * 10 ^ 6) + 1 * (50 * 10 ^ 6) + 1 * (50 * 10 ^ 6) in
+    let back = subst (EntriesAtMost (50 * 10 ^ 6)) (sym c.back.ensures) c.index-index.ensures.form.back_entries in
+    let small = subst (EntriesAtMost m) (sym c.times-turned.ensures.value) (at_most_product 1 (50 * 10 ^ 6) c.args.v.now c.back.result.now c.requires back) in
     record { x = grown (lit≤ tt) small.a12; y = grown (lit≤ tt) small.a22; z = grown (lit≤ tt) small.a32 }
 
 pub column_in_cell-requires-3 : goal.column_in_cell-requires-3
 column_in_cell-requires-3 c =
-    let m = 1 * (25 * 10 ^ 6) + 1 * (25 * 10 ^ 6) + 1 * (25 * 10 ^ 6) in
-    let back = subst (EntriesAtMost (25 * 10 ^ 6)) (sym c.back.ensures) c.index-index.ensures.form.back_entries in
-    let small = subst (EntriesAtMost m) (sym c.times-turned.ensures.value) (at_most_product 1 (25 * 10 ^ 6) c.args.v.now c.back.result.now c.requires back) in
+    let m = 1 * (50 * 10 ^ 6) + 1 * (50 * 10 ^ 6) + 1 * (50 * 10 ^ 6) in
+    let back = subst (EntriesAtMost (50 * 10 ^ 6)) (sym c.back.ensures) c.index-index.ensures.form.back_entries in
+    let small = subst (EntriesAtMost m) (sym c.times-turned.ensures.value) (at_most_product 1 (50 * 10 ^ 6) c.args.v.now c.back.result.now c.requires back) in
     record { x = grown (lit≤ tt) small.a13; y = grown (lit≤ tt) small.a23; z = grown (lit≤ tt) small.a33 }
 
 pub returns-in_err-column_in_cell-clause-absent : goal.returns-in_err-column_in_cell-clause-absent

@@ -2,6 +2,7 @@ use Rattle.std.proofs.Common.{◌≡◌, ◌≤◌, ℕ, subst, sym, ap, ◌∙�
 use Rattle.crystal_spec.specs.Matrices.{Matrix, product}
 use Rattle.crystal_spec.specs.Crystals.{IsPositive}
 use Rattle.crystal.specs.Views.{metric_of}
+use Rattle.crystal.specs.declared.limits.TheConstants.{MOST_ATOMS}
 use Rattle.crystal.specs.Bounds.{EntriesAtMost}
 use Rattle.crystal.proofs.Ranges.{product_fits}
 use Rattle.basis_spec.specs.Metrics.{metric_in}
@@ -28,7 +29,7 @@ pub changed_metric-requires-clause-columns : goal.changed_metric-requires-clause
 changed_metric-requires-clause-columns c =
     let h = few_pure c.args.cell.now c.count-form.ensures.cell c.count-form.ensures.form.few c.args.shifts.now.operations c.requires.exact in
     let e = c.step_basis-steps.ensures.count (λ o m. ((c.requires.exact.exact o).0 m).0) in
-    entries_of_each c.step_basis-steps.result.index 512 c.step_basis-steps.result.fore (subst (λ (n : ℕ). n ≤ 512) e h) c.step_basis-steps.ensures.fore_entries
+    entries_of_each c.step_basis-steps.result.index MOST_ATOMS c.step_basis-steps.result.fore (subst (λ (n : ℕ). n ≤ MOST_ATOMS) e h) c.step_basis-steps.ensures.fore_entries
 
 pub reduce-reduced-requires-clause-positive : goal.reduce-reduced-requires-clause-positive
 reduce-reduced-requires-clause-positive c =
@@ -45,7 +46,7 @@ reduce-reduced-requires-clause-small c =
     let found = c.step_basis-steps.result in
     let h = few_pure s c.count-form.ensures.cell c.count-form.ensures.form.few c.args.shifts.now.operations c.requires.exact in
     let e = c.step_basis-steps.ensures.count (λ o m. ((c.requires.exact.exact o).0 m).0) in
-    let columns = entries_of_each found.index 512 found.fore (subst (λ (n : ℕ). n ≤ 512) e h) c.step_basis-steps.ensures.fore_entries in
+    let columns = entries_of_each found.index MOST_ATOMS found.fore (subst (λ (n : ℕ). n ≤ MOST_ATOMS) e h) c.step_basis-steps.ensures.fore_entries in
     let is : metric_of c.changed_metric.result ≡ metric_in found.fore s.metric = c.changed_metric.ensures ∙ ap (metric_in found.fore) (c.matrix.ensures ∙ c.metric.ensures) in
     subst (EntriesAtMost (10 ^ 16)) (sym is) (step_metric_small found.fore s.metric columns c.requires.metric)
 
@@ -54,14 +55,14 @@ times-requires-clause-fits c =
     let found = c.step_basis-steps.result in
     let h = few_pure c.args.cell.now c.count-form.ensures.cell c.count-form.ensures.form.few c.args.shifts.now.operations c.requires.exact in
     let e = c.step_basis-steps.ensures.count (λ o m. ((c.requires.exact.exact o).0 m).0) in
-    product_fits (10 ^ 24) 512 _ _ (lit≤ tt) c.reduce-reduced.ensures.back_entries (entries_of_each found.index 512 found.back (subst (λ (n : ℕ). n ≤ 512) e h) c.step_basis-steps.ensures.back_entries)
+    product_fits (10 ^ 24) MOST_ATOMS _ _ (lit≤ tt) c.reduce-reduced.ensures.back_entries (entries_of_each found.index MOST_ATOMS found.back (subst (λ (n : ℕ). n ≤ MOST_ATOMS) e h) c.step_basis-steps.ensures.back_entries)
 
 pub times-requires-2-clause-fits : goal.times-requires-2-clause-fits
 times-requires-2-clause-fits c =
     let found = c.step_basis-steps.result in
     let h = few_pure c.args.cell.now c.count-form.ensures.cell c.count-form.ensures.form.few c.args.shifts.now.operations c.requires.exact in
     let e = c.step_basis-steps.ensures.count (λ o m. ((c.requires.exact.exact o).0 m).0) in
-    product_fits 512 (10 ^ 24) _ _ (lit≤ tt) (entries_of_each found.index 512 found.fore (subst (λ (n : ℕ). n ≤ 512) e h) c.step_basis-steps.ensures.fore_entries) c.reduce-reduced.ensures.base_entries
+    product_fits MOST_ATOMS (10 ^ 24) _ _ (lit≤ tt) (entries_of_each found.index MOST_ATOMS found.fore (subst (λ (n : ℕ). n ≤ MOST_ATOMS) e h) c.step_basis-steps.ensures.fore_entries) c.reduce-reduced.ensures.base_entries
 
 pub returns : goal.returns
 returns c =
@@ -74,7 +75,7 @@ returns c =
     let is : metric_of c.changed_metric.result ≡ metric_in found.fore s.metric = c.changed_metric.ensures ∙ ap (metric_in found.fore) (c.matrix.ensures ∙ c.metric.ensures) in
     let h = few_pure s c.count-form.ensures.cell c.count-form.ensures.form.few os c.requires.exact in
     let e = c.step_basis-steps.ensures.count (λ o m. ((c.requires.exact.exact o).0 m).0) in
-    let columns = entries_of_each found.index 512 found.fore (subst (λ (n : ℕ). n ≤ 512) e h) c.step_basis-steps.ensures.fore_entries in
+    let columns = entries_of_each found.index MOST_ATOMS found.fore (subst (λ (n : ℕ). n ≤ MOST_ATOMS) e h) c.step_basis-steps.ensures.fore_entries in
     let small = subst (EntriesAtMost (10 ^ 16)) (sym is) (step_metric_small found.fore s.metric columns c.requires.metric) in
     let reduction = subst (λ (g : Matrix). IsReduction g (metric_of m) made.base made.back) is (record {
       niggli = c.reduce-reduced.ensures.niggli;

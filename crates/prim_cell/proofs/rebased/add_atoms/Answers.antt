@@ -1,6 +1,7 @@
 use Rattle.std.proofs.Common.{◌≡◌, ◌<◌, ℕ, List, [], ◌∷◌, ◌++◌, length, map, take, subst, sym, ap, ◌∙◌, arith}
 use Rattle.crystal_spec.specs.declared.MomentKind.{MomentKind}
 use Rattle.crystal_spec.specs.Crystals.{Site, Structure}
+use Rattle.crystal.specs.declared.limits.TheConstants.{MOST_ATOMS}
 use Rattle.crystal.specs.Views.{site_of}
 use Rattle.crystal.specs.Cells.{IsSiteOf}
 use Rattle.crystal.proofs.ImageLemmas.{member_at}
@@ -28,7 +29,7 @@ pub put-requires-clause-fewer : goal.put-requires-clause-fewer
 put-requires-clause-fewer c =
     let s = c.args.cell.now in
     let below : c.loop-i.i < length s.sites = omega (arith, c.count-i-end.ensures.value, c.loop-i-test.true) in
-    subst (λ (l : List Site). length l < 512) (sym (ap (λ (t : Structure). t.sites) c.loop-i.invariant)) (few_so_far (site_in_basis s.n s.kind c.args.r.now) s.sites c.loop-i.i below c.count-i-end.ensures.form.few)
+    subst (λ (l : List Site). length l < MOST_ATOMS) (sym (ap (λ (t : Structure). t.sites) c.loop-i.invariant)) (few_so_far (site_in_basis s.n s.kind c.args.r.now) s.sites c.loop-i.i below c.count-i-end.ensures.form.few)
 
 pub loop-i-preserved : goal.loop-i-preserved
 loop-i-preserved c =

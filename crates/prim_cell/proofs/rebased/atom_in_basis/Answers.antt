@@ -6,7 +6,7 @@ use Rattle.prim_cell.proofs.rebased.atom_in_basis.Goals as goal
 
 pub apply-requires-clause-fits : goal.apply-requires-clause-fits
 apply-requires-clause-fits c =
-    image_fits 25000000 (10 ^ 9) _ _ (lit≤ tt) (subst (EntriesAtMost 25000000) (sym c.turn_matrix.ensures) (turn_entries c.args.kind 25000000 c.args.r.now (lit≤ tt) c.requires.basis)) c.requires.moment
+    image_fits 50000000 (10 ^ 9) _ _ (lit≤ tt) (subst (EntriesAtMost 50000000) (sym c.turn_matrix.ensures) (turn_entries c.args.kind 50000000 c.args.r.now (lit≤ tt) c.requires.basis)) c.requires.moment
 
 pub returns-clause-value : goal.returns-clause-value
 returns-clause-value c = λ i. record {
@@ -17,5 +17,5 @@ returns-clause-value c = λ i. record {
 
 pub returns-clause-moment : goal.returns-clause-moment
 returns-clause-moment c =
-    coordinates_grown {v = c.apply.result} (lit≤ tt) (subst (CoordinatesAtMost (25000000 * 10 ^ 9 + 25000000 * 10 ^ 9 + 25000000 * 10 ^ 9)) (sym c.apply.ensures.value)
-    (at_most_image 25000000 (10 ^ 9) _ _ (subst (EntriesAtMost 25000000) (sym c.turn_matrix.ensures) (turn_entries c.args.kind 25000000 c.args.r.now (lit≤ tt) c.requires.basis)) c.requires.moment))
+    coordinates_grown {v = c.apply.result} (lit≤ tt) (subst (CoordinatesAtMost (50000000 * 10 ^ 9 + 50000000 * 10 ^ 9 + 50000000 * 10 ^ 9)) (sym c.apply.ensures.value)
+    (at_most_image 50000000 (10 ^ 9) _ _ (subst (EntriesAtMost 50000000) (sym c.turn_matrix.ensures) (turn_entries c.args.kind 50000000 c.args.r.now (lit≤ tt) c.requires.basis)) c.requires.moment))

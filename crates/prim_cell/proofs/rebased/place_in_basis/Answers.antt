@@ -7,7 +7,7 @@ use Rattle.basis_spec.specs.Positions.{residue}
 use Rattle.prim_cell.proofs.rebased.place_in_basis.Goals as goal
 
 pub apply-image-requires-clause-fits : goal.apply-image-requires-clause-fits
-apply-image-requires-clause-fits c = image_fits 25000000 (2 ^ 32) _ _ (lit≤ tt) c.requires.basis c.column.ensures.size
+apply-image-requires-clause-fits c = image_fits 50000000 (2 ^ 32) _ _ (lit≤ tt) c.requires.basis c.column.ensures.size
 
 pub returns : goal.returns
 unfolding residue

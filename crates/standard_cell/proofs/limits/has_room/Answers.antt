@@ -3,6 +3,7 @@ use Rattle.ring.specs.Size.{AtMost}
 use Rattle.matrix3.specs.Matrices.{EachEntry}
 use Rattle.crystal_spec.specs.Matrices.{Matrix, image, determinant, adjugate}
 use Rattle.crystal_spec.specs.Moments.{turn_matrix}
+use Rattle.crystal.specs.declared.limits.TheConstants.{MOST_ATOMS}
 use Rattle.crystal.specs.Bounds.{CoordinatesAtMost}
 use Rattle.standard_cell.proofs.FrameSizes.{back_small}
 use Rattle.standard_cell.proofs.StartLemmas.{turn_each}
@@ -12,7 +13,7 @@ use Rattle.standard_cell.proofs.limits.has_room.Goals as goal
 pub returns-then-not-is_few : goal.returns-then-not-is_few
 returns-then-not-is_few c =
     let f = c.args.frame.now in
-    ((λ t. absurd (cc t)), (λ room. absurd (let yes : c.is_few.result ≡ true = c.is_few.ensures.1 (subst (λ (h : ℕ). h * length c.args.cell.now.sites ≤ 512) (sym (index_size f.index (determinant f.turn) c.requires.frame.index)) room.atoms) in cc (yes, c.if-not-is_few.true))))
+    ((λ t. absurd (cc t)), (λ room. absurd (let yes : c.is_few.result ≡ true = c.is_few.ensures.1 (subst (λ (h : ℕ). h * length c.args.cell.now.sites ≤ MOST_ATOMS) (sym (index_size f.index (determinant f.turn) c.requires.frame.index)) room.atoms) in cc (yes, c.if-not-is_few.true))))
 
 pub returns-then-not-is_part : goal.returns-then-not-is_part
 returns-then-not-is_part c = ((λ t. absurd (cc t)), (λ room. absurd (let yes : c.is_part.result ≡ true = c.is_part.ensures.1 room.n in cc (yes, c.if-not-is_part.true))))
@@ -34,7 +35,7 @@ returns c =
     let s = c.args.cell.now in
     let e : c.turn_matrix.result ≡ turn_matrix s.kind (adjugate f.turn) = c.turn_matrix.ensures ∙ (λ j. turn_matrix (c.kind.ensures j) (c.requires.frame.back j)) in (
       (λ t. record {
-        atoms = subst (λ (h : ℕ). h * length s.sites ≤ 512) (index_size f.index (determinant f.turn) c.requires.frame.index) (c.is_few.ensures.0 c.if-not-is_few.false);
+        atoms = subst (λ (h : ℕ). h * length s.sites ≤ MOST_ATOMS) (index_size f.index (determinant f.turn) c.requires.frame.index) (c.is_few.ensures.0 c.if-not-is_few.false);
         n = c.is_part.ensures.0 c.if-not-is_part.false;
         k = c.is_natural_part.ensures.0 c.if-not-is_natural_part.false;
         metric = c.is_metric.ensures.0 c.if-not-is_metric.false;

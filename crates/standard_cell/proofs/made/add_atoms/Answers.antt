@@ -2,6 +2,7 @@ use Rattle.std.proofs.Common.{◌≡◌, ◌<◌, ◌≤◌, List, [], ◌∷◌
 use Rattle.std.specs.Prelude.{slice_get, Some}
 use Rattle.std.proofs.lemmas.List.{length-map}
 use Rattle.crystal_spec.specs.Crystals.{Site, Structure}
+use Rattle.crystal.specs.declared.limits.TheConstants.{MOST_ATOMS}
 use Rattle.crystal.specs.Views.{site_of}
 use Rattle.crystal.specs.Cells.{IsSiteOf}
 use Rattle.crystal.specs.Occupants.{NoneAt}
@@ -31,7 +32,7 @@ pub add-requires-clause-fewer : goal.add-requires-clause-fewer
 add-requires-clause-fewer c =
     let xs = map site_of c.args.atoms.now in
     let l = length-map c.args.atoms.now site_of in
-    subst (λ (t : Structure). length t.sites < 512) (sym c.loop-i.invariant) (fewer_before xs c.loop-i.i (omega (arith, l)) c.requires.few)
+    subst (λ (t : Structure). length t.sites < MOST_ATOMS) (sym c.loop-i.invariant) (fewer_before xs c.loop-i.i (omega (arith, l)) c.requires.few)
 
 pub loop-i-preserved : goal.loop-i-preserved
 loop-i-preserved c =

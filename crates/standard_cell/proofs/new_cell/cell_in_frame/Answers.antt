@@ -5,6 +5,7 @@ use Rattle.crystal_spec.specs.Matrices.{determinant}
 use Rattle.crystal_spec.specs.Moments.{divisor}
 use Rattle.crystal_spec.specs.Crystals.{Site}
 use Rattle.crystal_spec.proofs.Moments.{divisor-positive}
+use Rattle.crystal.specs.declared.limits.TheConstants.{MOST_ATOMS}
 use Rattle.crystal.specs.declared.atom.Atom.{Atom}
 use Rattle.crystal.specs.Views.{site_of}
 use Rattle.crystal.specs.Cells.{AreApart, AreSitesOf}
@@ -138,7 +139,7 @@ cell_of-requires-clause-few c =
     let sites = map site_of c.in_ok-atoms.atoms.items in
     let blocks : AreBlocks s f.turn (origin_of f) (unsigned_abs u.n) s.sites sites = c.in_ok-atoms.ensures in
     let standard : IsStandard s f.turn (origin_of f) (cell_with s f.turn (origin_of f) u form above is_p units sites) = standard_with s f.turn (origin_of f) u form above is_p units sites blocks in
-    subst (λ (xs : List Atom). length (map site_of xs) ≤ 512) (sym c.deref.ensures.value) (limits_of_room s f.turn (origin_of f) u form above is_p units room sites blocks).atoms
+    subst (λ (xs : List Atom). length (map site_of xs) ≤ MOST_ATOMS) (sym c.deref.ensures.value) (limits_of_room s f.turn (origin_of f) u form above is_p units room sites blocks).atoms
 
 pub cell_of-requires-clause-first : goal.cell_of-requires-clause-first
 cell_of-requires-clause-first c =

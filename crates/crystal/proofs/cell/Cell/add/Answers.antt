@@ -1,6 +1,7 @@
 use Rattle.std.proofs.Common.{◌≡◌, ◌<◌, ◌++◌, [], ◌∷◌, List, subst, sym, ap, ◌∙◌, map, length}
 use Rattle.std.proofs.lemmas.List.{map-append}
 use Rattle.crystal_spec.specs.Crystals.{Site, Structure}
+use Rattle.crystal.specs.declared.limits.TheConstants.{MOST_ATOMS}
 use Rattle.crystal.specs.Views.{site_of, triple_of}
 use Rattle.crystal.specs.Occupants.{NoneAt}
 use Rattle.crystal.specs.Cells.{IsCellWithinLimits, IsSiteOf}
@@ -18,4 +19,4 @@ invariant_of-self-2 c =
     (atom_more s (site_of c.args.atom) c.self.invariant
     (subst (λ (t : Structure). IsSiteOf (length t.names) t.n t.kind (site_of c.args.atom)) back c.requires.site)
     (subst (λ (t : Structure). NoneAt (triple_of c.args.atom.place) t.sites) back c.requires.free)
-    (subst (λ (t : Structure). length t.sites < 512) back c.requires.fewer))
+    (subst (λ (t : Structure). length t.sites < MOST_ATOMS) back c.requires.fewer))
