@@ -12,6 +12,7 @@ use Rattle.crystal.specs.Bounds.{EntriesAtMost, CoordinatesAtMost}
 use Rattle.plain_text.specs.Text.{lines}
 use Rattle.numbers.specs.Fraction.{Fraction}
 use Rattle.plain_text.specs.NumberWords.{common_denominator, scaled}
+use Rattle.cell_text.specs.declared.version.Version.{Version}
 use Rattle.cell_text.specs.Lines.{Entry, skipped, metric_entry, atom_entry, end_entry, kind_entry, other_entry}
 use Rattle.cell_text.specs.Entries.{AtomLine, ScaledMetric, Contents, values, number_at, metric_of, with_entry, state_after, contents, moments, is_billion, is_metric_in_range, are_moments_in_range}
 use Rattle.cell_text.specs.Rules.{entry_fault, cell_fault}
@@ -50,16 +51,16 @@ metrics-append (x ∷ ms) m small one = (small.0, metrics-append ms m small.1 on
 
 -- ---- a line that breaks no rule
 
-later_small : (held : Contents) (entry : Entry) → IsEntry entry → entry_fault held entry ≡ None → HoldsSmall held → HoldsSmall (with_entry held entry)
-later_small held skipped n e small = small
-later_small held (metric_entry ws) n e small = record {
-  metrics = metrics-append held.metrics (metric_of (values ws)) small.metrics (metric_small (values ws) (metric_fits held ws e));
+later_small : (version : Version) (held : Contents) (entry : Entry) → IsEntry entry → entry_fault version held entry ≡ None → HoldsSmall held → HoldsSmall (with_entry held entry)
+later_small version held skipped n e small = small
+later_small version held (metric_entry ws) n e small = record {
+  metrics = metrics-append held.metrics (metric_of (values ws)) small.metrics (metric_small (values ws) (metric_fits version held ws e));
   moments = small.moments;
 }
-later_small held (atom_entry name ws) n e small = record { metrics = small.metrics; moments = moments_fit held name ws e }
-later_small held end_entry n e small = record { metrics = small.metrics; moments = small.moments }
-later_small held (kind_entry kind) n e small = record { metrics = small.metrics; moments = small.moments }
-later_small held other_entry n e small = absurd cc
+later_small version held (atom_entry name ws) n e small = record { metrics = small.metrics; moments = moments_fit version held name ws e }
+later_small version held end_entry n e small = record { metrics = small.metrics; moments = small.moments }
+later_small version held (kind_entry kind) n e small = record { metrics = small.metrics; moments = small.moments }
+later_small version held other_entry n e small = absurd cc
 
 -- ---- all lines
 

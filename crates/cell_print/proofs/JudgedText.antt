@@ -8,6 +8,7 @@ use Rattle.std.proofs.lemmas.Nat.Gcd.{le_of_dvd}
 use Rattle.crystal_spec.specs.declared.MomentKind.{MomentKind}
 use Rattle.crystal_spec.specs.Crystals.{Site, Structure}
 use Rattle.crystal_spec.specs.Operations.{IsWithinCell}
+use Rattle.crystal.specs.declared.limits.TheConstants.{MOST_ATOMS}
 use Rattle.cell_text.specs.declared.fault.CellFault.{CellFault}
 use Rattle.cell_text.specs.declared.fault.CellFault.TheVariants.{BadLine, TooManyAtoms, PositionRange, MomentRange, MetricTwice, MetricRange, NotPositive, BadByte, AfterEnd}
 use Rattle.cell_text.specs.declared.version.Version.{Version}
@@ -89,7 +90,7 @@ behind c sites = state_with (Some (version_of_kind c.kind)) (held_with c sites)
 
 -- an atom that can follow these
 pub record CanFollow (c : Structure) (sites : List Site) (s : Site) : Type 0 where
-  pub fewer : length sites < 512
+  pub fewer : length sites < MOST_ATOMS
   pub plain : IsPlain c s
   pub within : IsWithinCell c.n s.position
   pub away : IsElsewhere c sites s
@@ -110,16 +111,16 @@ place_fault-none c sites s units h =
 rules_none : (b a : Bool) (f g : Option CellFault) → b ≡ true → a ≡ false → f ≡ None → g ≡ None → first_of (when (not b) BadLine ∷ when a TooManyAtoms ∷ f ∷ g ∷ []) ≡ None
 rules_none b a f g eb ea ef eg = rw (eb, ea, ef, eg) refl
 
-not_many : (n : ℕ) → n < 512 → nat_le 512 n ≡ false
-not_many n h = lt-leb 512 n h
+not_many : (n : ℕ) → n < MOST_ATOMS → nat_le MOST_ATOMS n ≡ false
+not_many n h = lt-leb MOST_ATOMS n h
 
-atom_line-none : (c : Structure) (sites : List Site) (s : Site) → HasUnits c → CanFollow c sites s → atom_fault (held_with c sites) (name_of c s) (atom_words c s) ≡ None
+atom_line-none : (c : Structure) (sites : List Site) (s : Site) → HasUnits c → CanFollow c sites s → atom_fault (version_of_kind c.kind) (held_with c sites) (name_of c s) (atom_words c s) ≡ None
 unfolding atom_fault
 atom_line-none c sites s units h =
     rules_none _ _ _ _
     (ap (λ (kind : MomentKind). are_numbers_of kind (length (atom_words c s))) (kind-told c.kind) ∙ atom_line-count c s)
-    (ap (λ (n : ℕ). nat_le 512 n) (length-map sites (entry c)) ∙ not_many (length sites) h.fewer)
-    (atom_line-no_fault c s units h.plain)
+    (ap (λ (n : ℕ). nat_le MOST_ATOMS n) (length-map sites (entry c)) ∙ not_many (length sites) h.fewer)
+    (atom_line-no_fault (version_of_kind c.kind) c s units h.plain)
     (ap (place_fault (held_with c sites)) (atom_line-read c s units h.plain) ∙ place_fault-none c sites s units h)
 
 abbrev sizes_known : (c : Structure) → HasUnits c → (c.n < 10 ^ 18) × (c.k < 10 ^ 18)
@@ -132,8 +133,8 @@ atom-fault : (c : Structure) (before : List (List ℕ)) (sites : List Site) (s :
 unfolding later_fault
 atom-fault c before sites s units h held =
     ap (λ (so_far : State). judged so_far (atom_line c s)) held
-    ∙ ap (later_fault (held_with c sites) (atom_line c s)) (atom_line-is (version_of_kind c.kind) c s units h.plain)
-    ∙ passed (has_bad_byte (atom_line c s)) (atom_fault (held_with c sites) (name_of c s) (atom_words c s)) (line-no_bad_byte (atom_line c s) (atom_line-bytes c s (sizes_known c units).0 (sizes_known c units).1 h.plain)) (atom_line-none c sites s units h)
+    ∙ ap (later_fault (version_of_kind c.kind) (held_with c sites) (atom_line c s)) (atom_line-is (version_of_kind c.kind) c s units h.plain)
+    ∙ passed (has_bad_byte (atom_line c s)) (atom_fault (version_of_kind c.kind) (held_with c sites) (name_of c s) (atom_words c s)) (line-no_bad_byte (atom_line c s) (atom_line-bytes c s (sizes_known c units).0 (sizes_known c units).1 h.plain)) (atom_line-none c sites s units h)
 
 atom-held : (c : Structure) (before : List (List ℕ)) (sites : List Site) (s : Site) → HasUnits c → IsPlain c s → state_after before ≡ behind c sites → state_after (before ++ atom_line c s ∷ []) ≡ behind c (sites ++ s ∷ [])
 atom-held c before sites s units plain held =
@@ -151,16 +152,16 @@ atom-held c before sites s units plain held =
 four_none : (a b d : Bool) (f : Option CellFault) → a ≡ true → f ≡ None → b ≡ true → d ≡ true → first_of (when (not a) MetricTwice ∷ f ∷ when (not b) MetricRange ∷ when (not d) NotPositive ∷ []) ≡ None
 four_none a b d f ea ef eb ed = rw (ea, ef, eb, ed) refl
 
-metric_line-none : (c : Structure) → IsPlainMetric c → metric_fault (first_held c.kind) (metric_words c) ≡ None
+metric_line-none : (c : Structure) → IsPlainMetric c → metric_fault (version_of_kind c.kind) (first_held c.kind) (metric_words c) ≡ None
 unfolding metric_fault
-metric_line-none c h = four_none true _ _ _ refl (metric_line-no_fault c h) (metric_line-in_range c h) (metric_line-positive c h)
+metric_line-none c h = four_none true _ _ _ refl (metric_line-no_fault (version_of_kind c.kind) c h) (metric_line-in_range c h) (metric_line-positive c h)
 
 metric-fault : (c : Structure) → IsPlainMetric c → fault_after (first_lines c.kind) (metric_line c) ≡ None
 unfolding later_fault
 metric-fault c h =
     ap (λ (so_far : State). judged so_far (metric_line c)) (first_lines-held c.kind)
-    ∙ ap (later_fault (first_held c.kind) (metric_line c)) (metric_line-is (version_of_kind c.kind) c h)
-    ∙ passed (has_bad_byte (metric_line c)) (metric_fault (first_held c.kind) (metric_words c)) (line-no_bad_byte (metric_line c) (metric_line-bytes c (omega (arith, h.small_scale)) h.small)) (metric_line-none c h)
+    ∙ ap (later_fault (version_of_kind c.kind) (first_held c.kind) (metric_line c)) (metric_line-is (version_of_kind c.kind) c h)
+    ∙ passed (has_bad_byte (metric_line c)) (metric_fault (version_of_kind c.kind) (first_held c.kind) (metric_words c)) (line-no_bad_byte (metric_line c) (metric_line-bytes c (omega (arith, h.small_scale)) h.small)) (metric_line-none c h)
 
 metric-held : (c : Structure) → IsPlainMetric c → state_after (first_lines c.kind ++ metric_line c ∷ []) ≡ behind c []
 metric-held c h =
@@ -188,7 +189,7 @@ end-fault : (c : Structure) (before : List (List ℕ)) (sites : List Site) → 0
 unfolding later_fault
 end-fault c before sites filled held =
     ap (λ (so_far : State). judged so_far end_word) held
-    ∙ ap (later_fault (held_with c sites) end_word) (end-is (version_of_kind c.kind))
+    ∙ ap (later_fault (version_of_kind c.kind) (held_with c sites) end_word) (end-is (version_of_kind c.kind))
     ∙ passed (has_bad_byte end_word) (end_fault (held_with c sites)) end-no_bad_byte (end-none c sites filled)
 
 -- the contents of the whole text

@@ -14,8 +14,7 @@ use Rattle.numbers.specs.Gcd.{gcd, lcm}
 use Rattle.numbers.specs.Residue.{residue}
 use Rattle.numbers.proofs.GcdLemmas.{gcd_is, gcd-swap, gauss, coprime-quotients, lcm_least, lcm-multiple_left, lcm-multiple_right}
 use Rattle.numbers.specs.Fraction.{Fraction}
-use Rattle.plain_text.specs.NumberWords.{denominator_of, scaled, common_denominator, is_negative, numerator_part, denominator_part, number_value}
-use Rattle.plain_text.specs.Digits.{value_of_digits}
+use Rattle.plain_text.specs.NumberWords.{denominator_of, scaled, common_denominator, is_negative, word_numerator, word_denominator, number_value}
 use Rattle.plain_text.proofs.Multiples.{parts-positive, lcm-positive}
 use Rattle.plain_text.proofs.Signs.{signed-size, number_value-parts}
 use Rattle.cell_print.specs.Printable.{divisor_with}
@@ -32,10 +31,10 @@ Each P [] = Unit {0}
 Each P (f ∷ fs) = P f × Each P fs
 
 -- the value of a word is in lowest terms
-pub value_lowest : (w : List ℕ) → 0 < value_of_digits (denominator_part w) → IsLowest (number_value w)
+pub value_lowest : (w : List ℕ) → 0 < word_denominator w → IsLowest (number_value w)
 value_lowest w some =
-    let a = value_of_digits (numerator_part w) in
-    let b = value_of_digits (denominator_part w) in
+    let a = word_numerator w in
+    let b = word_denominator w in
     subst IsLowest (sym (number_value-parts w)) (record {
       positive = parts-positive a b some;
       lowest = ap (λ (n : ℕ). gcd n (b / gcd a b)) (signed-size (is_negative w) (a / gcd a b)) ∙ coprime-quotients a b some;

@@ -14,7 +14,7 @@ use Rattle.numbers.specs.Fraction.{Fraction}
 use Rattle.plain_text.specs.NumberWords.{scaled, common_denominator, number_value}
 use Rattle.plain_text.specs.FirstFaults.{first_of}
 use Rattle.cell_text.specs.declared.version.Version.{Version}
-use Rattle.cell_text.specs.Lines.{word_fault, metric_entry, atom_entry, behind_atom, entry_of_words, entry_of}
+use Rattle.cell_text.specs.Lines.{number_form, word_fault, metric_entry, atom_entry, behind_atom, entry_of_words, entry_of}
 use Rattle.cell_text.specs.Entries.{AtomLine, ScaledMetric, values, nothing, number_at, atom_of, scaled_tensor, metric_of, symmetric, is_billion, is_metric_in_range, is_positive}
 use Rattle.cell_text.specs.Rules.{are_numbers_of}
 use Rattle.cell_print.specs.CellFileText.{scalar_products, coordinates, is_zero, is_nothing, moment_numbers}
@@ -35,10 +35,10 @@ number_texts-values d [] some h small = refl
 number_texts-values d (z ∷ zs) some h small =
     ap (λ (f : Fraction). f ∷ map number_value (number_texts d zs)) (number_text-value z d some small.0 h) ∙ ap (λ (fs : List Fraction). reduced d z ∷ fs) (number_texts-values d zs some h small.1)
 
--- No printed number has a fault.
-pub number_texts-no_fault : (d : ℕ) (zs : List ℤ) (ws : List (List ℕ)) → 0 < d → d < 10 ^ 18 → AreSmall zs → first_of (map word_fault ws) ≡ None → first_of (map word_fault (number_texts d zs ++ ws)) ≡ None
-number_texts-no_fault d [] ws some h small e = e
-number_texts-no_fault d (z ∷ zs) ws some h small e = rw (word_passes (number_text z d) (number_text-no_fault z d some small.0 h)) (number_texts-no_fault d zs ws some h small.1 e)
+-- No printed number has a fault, in either version.
+pub number_texts-no_fault : (version : Version) (d : ℕ) (zs : List ℤ) (ws : List (List ℕ)) → 0 < d → d < 10 ^ 18 → AreSmall zs → first_of (map (word_fault version) ws) ≡ None → first_of (map (word_fault version) (number_texts d zs ++ ws)) ≡ None
+number_texts-no_fault version d [] ws some h small e = e
+number_texts-no_fault version d (z ∷ zs) ws some h small e = rw (word_passes version (number_text z d) (number_text-no_fault (number_form version) z d some small.0 h)) (number_texts-no_fault version d zs ws some h small.1 e)
 
 -- ---- the metric line
 
@@ -118,8 +118,8 @@ unfolding entry_of
 metric_line-is version c h = ap (entry_of_words version) (metric_line-words c (omega (arith, h.small_scale)) h.small)
 
 -- Its words are numbers.
-pub metric_line-no_fault : (c : Structure) → IsPlainMetric c → first_of (map word_fault (metric_words c)) ≡ None
-metric_line-no_fault c h = number_texts-no_fault (unsigned_abs c.scale) (scalar_products c.metric) [] h.some (omega (arith, h.small_scale)) h.small refl
+pub metric_line-no_fault : (version : Version) (c : Structure) → IsPlainMetric c → first_of (map (word_fault version) (metric_words c)) ≡ None
+metric_line-no_fault version c h = number_texts-no_fault version (unsigned_abs c.scale) (scalar_products c.metric) [] h.some (omega (arith, h.small_scale)) h.small refl
 
 -- ---- atom lines
 
@@ -192,21 +192,21 @@ atom_line-read c s units plain =
     ap (λ (ps : List Fraction). of_values (name_of c s) ps (moment_values (values (moment_words c.kind c.k s.moment)))) (number_texts-values c.n (coordinates s.position) units.some_n (omega (arith, units.small_n)) plain.position)
     ∙ ap (λ (ms : List Fraction). of_values (name_of c s) (map (reduced c.n) (coordinates s.position)) ms) (moment_words-values c.kind c.k s.moment units.some_k (omega (arith, units.small_k)) plain.moment plain.of_kind)
 
-numbers-no_fault : (kind : MomentKind) (k : ℕ) (m : Triple) → 0 < k → k < 10 ^ 18 → AreSmall (coordinates m) → first_of (map word_fault (number_texts k (moment_numbers kind m))) ≡ None
-numbers-no_fault kind k m some h small = by kind.vector
+numbers-no_fault : (version : Version) (kind : MomentKind) (k : ℕ) (m : Triple) → 0 < k → k < 10 ^ 18 → AreSmall (coordinates m) → first_of (map (word_fault version) (number_texts k (moment_numbers kind m))) ≡ None
+numbers-no_fault version kind k m some h small = by kind.vector
   where
-    by : (vector : Bool) → first_of (map word_fault (number_texts k (if vector then coordinates m else m.x ∷ []))) ≡ None
-    by true = number_texts-no_fault k (coordinates m) [] some h small refl
-    by false = number_texts-no_fault k (m.x ∷ []) [] some h (small.0, tt) refl
+    by : (vector : Bool) → first_of (map (word_fault version) (number_texts k (if vector then coordinates m else m.x ∷ []))) ≡ None
+    by true = number_texts-no_fault version k (coordinates m) [] some h small refl
+    by false = number_texts-no_fault version k (m.x ∷ []) [] some h (small.0, tt) refl
 
 -- Its words behind the name are numbers.
-pub atom_line-no_fault : (c : Structure) (s : Site) → HasUnits c → IsPlain c s → first_of (map word_fault (atom_words c s)) ≡ None
-atom_line-no_fault c s units plain =
-    number_texts-no_fault c.n (coordinates s.position) (moment_words c.kind c.k s.moment) units.some_n (omega (arith, units.small_n)) plain.position (by (is_nothing s.moment))
+pub atom_line-no_fault : (version : Version) (c : Structure) (s : Site) → HasUnits c → IsPlain c s → first_of (map (word_fault version) (atom_words c s)) ≡ None
+atom_line-no_fault version c s units plain =
+    number_texts-no_fault version c.n (coordinates s.position) (moment_words c.kind c.k s.moment) units.some_n (omega (arith, units.small_n)) plain.position (by (is_nothing s.moment))
   where
-    by : (b : Bool) → first_of (map word_fault (if b then [] else number_texts c.k (moment_numbers c.kind s.moment))) ≡ None
+    by : (b : Bool) → first_of (map (word_fault version) (if b then [] else number_texts c.k (moment_numbers c.kind s.moment))) ≡ None
     by true = refl
-    by false = numbers-no_fault c.kind c.k s.moment units.some_k (omega (arith, units.small_k)) plain.moment
+    by false = numbers-no_fault version c.kind c.k s.moment units.some_k (omega (arith, units.small_k)) plain.moment
 
 -- what is known of how many words there are behind the name
 record HasCount (kind : MomentKind) (ws : List (List ℕ)) : Type 0 where

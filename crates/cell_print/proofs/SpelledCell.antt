@@ -9,6 +9,7 @@ use Rattle.numbers.proofs.ResidueRing.{residue_below}
 use Rattle.crystal_spec.specs.declared.MomentKind.{MomentKind}
 use Rattle.crystal_spec.specs.Matrices.{Triple}
 use Rattle.crystal_spec.specs.Crystals.{Site, Structure}
+use Rattle.crystal.specs.declared.limits.TheConstants.{MOST_ATOMS}
 use Rattle.crystal.specs.Names.{is_name}
 use Rattle.crystal.specs.Occupants.{NoneAt}
 use Rattle.crystal.specs.Cells.{IsCellWithinLimits, IsSiteOf, AreSitesOf, AreApart}
@@ -97,7 +98,7 @@ moments-front : (before : List Site) (s : Site) (later : List Site) → AreAtMos
 moments-front [] s later h = (h.0, (h.1.0, (h.1.1.0, tt)))
 moments-front (a ∷ before) s later h = (h.0, (h.1.0, (h.1.1.0, moments-front before s later h.1.1.1)))
 
-all_follow : (c : Structure) (all before later : List Site) → before ++ later ≡ all → length all ≤ 512 → AreSitesOf (length c.names) c.n c.kind all → AreApart all → AreAtMost (10 ^ 9) (all_moments all) → AreSitesOf (length c.names) c.n c.kind later → ArePlain c later → CanFollowAll c before later
+all_follow : (c : Structure) (all before later : List Site) → before ++ later ≡ all → length all ≤ MOST_ATOMS → AreSitesOf (length c.names) c.n c.kind all → AreApart all → AreAtMost (10 ^ 9) (all_moments all) → AreSitesOf (length c.names) c.n c.kind later → ArePlain c later → CanFollowAll c before later
 all_follow c all before [] e few sites apart most here plain = tt
 all_follow c all before (s ∷ later) e few sites apart most here plain = (
   record {

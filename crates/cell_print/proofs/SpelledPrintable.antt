@@ -13,15 +13,14 @@ use Rattle.numbers.specs.Gcd.{gcd}
 use Rattle.crystal_spec.specs.Crystals.{Structure}
 use Rattle.crystal.specs.Names.{is_name}
 use Rattle.crystal.specs.Numbering.{AreByFirstUse}
+use Rattle.cell_text.specs.declared.version.Version.{Version}
 use Rattle.cell_text.specs.declared.fault.CellFault.{CellFault}
-use Rattle.plain_text.specs.declared.fault.NumberFault.{NumberFault}
-use Rattle.plain_text.specs.declared.fault.NumberFault.TheVariants.{BadNumber, NumberRange, ZeroDenominator}
 use Rattle.plain_text.specs.Text.{lines}
 use Rattle.numbers.specs.Fraction.{Fraction}
-use Rattle.plain_text.specs.NumberWords.{common_denominator, scaled, numerator_part, denominator_part, number_fault, number_value}
-use Rattle.plain_text.specs.FirstFaults.{when, or_else, first_of}
-use Rattle.plain_text.specs.Digits.{is_digits, value_of_digits}
-use Rattle.cell_text.specs.Lines.{word_fault, same_word, Entry, skipped, metric_entry, atom_entry, end_entry, kind_entry, other_entry}
+use Rattle.plain_text.specs.NumberWords.{common_denominator, scaled, number_value}
+use Rattle.plain_text.specs.FirstFaults.{or_else, first_of}
+use Rattle.plain_text.proofs.Decimals.{number_positive}
+use Rattle.cell_text.specs.Lines.{number_form, word_fault, same_word, Entry, skipped, metric_entry, atom_entry, end_entry, kind_entry, other_entry}
 use Rattle.cell_text.specs.Entries.{AtomLine, ScaledMetric, Contents, values, nothing, number_at, atom_of, metric_of, with_entry, state_after, contents, positions, moments, is_billion, is_metric_in_range, are_moments_in_range}
 use Rattle.cell_text.specs.Rules.{metric_fault, atom_fault, entry_fault}
 use Rattle.cell_text.specs.CellFile.{Spells, cell_with, with_name, names_of, site_of, no_metric}
@@ -37,32 +36,16 @@ use Rattle.cell_print.proofs.LeastUnits.{IsLowest, Each, value_lowest, least_uni
 
 -- ---- the numbers of a line
 
--- the rules of a number word
-abbrev number_faults : List ℕ → List (Option NumberFault)
-number_faults word =
-    when (not (is_digits (numerator_part word) && is_digits (denominator_part word))) BadNumber
-    ∷ when (nat_lt 18 (length (numerator_part word)) || nat_lt 18 (length (denominator_part word))) NumberRange
-    ∷ when (value_of_digits (denominator_part word) == 0) ZeroDenominator
-    ∷ []
-
-nonzero : (n : ℕ) → when (n == 0) ZeroDenominator ≡ None → 0 < n
-nonzero zero e = absurd cc
-nonzero (suc n) e = omega arith
-
-number_positive : (w : List ℕ) → number_fault w ≡ None → 0 < value_of_digits (denominator_part w)
-unfolding number_fault
-number_positive w e = nonzero (value_of_digits (denominator_part w)) (all_none (number_faults w) 2 e)
-
 rest_none : (f r : Option CellFault) → or_else f r ≡ None → r ≡ None
 rest_none None r e = e
 rest_none (Some f) r e = absurd cc
 
 -- the numbers of words that break no rule are in lowest terms
-values_lowest : (ws : List (List ℕ)) → first_of (map word_fault ws) ≡ None → Each IsLowest (values ws)
-values_lowest [] e = tt
-values_lowest (w ∷ ws) e = (
-  value_lowest w (number_positive w (number_passes w (all_none (map word_fault (w ∷ ws)) 0 e))),
-  values_lowest ws (rest_none (word_fault w) (first_of (map word_fault ws)) e),
+values_lowest : (version : Version) (ws : List (List ℕ)) → first_of (map (word_fault version) ws) ≡ None → Each IsLowest (values ws)
+values_lowest version [] e = tt
+values_lowest version (w ∷ ws) e = (
+  value_lowest w (number_positive (number_form version) w (number_passes version w (all_none (map (word_fault version) (w ∷ ws)) 0 e))),
+  values_lowest version ws (rest_none (word_fault version w) (first_of (map (word_fault version) ws)) e),
 )
 
 nothing_lowest : IsLowest nothing
@@ -122,12 +105,12 @@ metric_printable fs n e l =
       entries = (small 0, (small 1, (small 2, (small 3, (small 4, (small 5, tt))))));
     }
 
-metric_here : (held : Contents) (ws : List (List ℕ)) → length ws ≡ 6 → metric_fault held ws ≡ None → IsPrintableMetric (metric_of (values ws))
-metric_here held ws n e = metric_printable (values ws) (length-map ws number_value ∙ n) (metric_fits held ws e) (values_lowest ws (metric_numbers held ws e))
+metric_here : (version : Version) (held : Contents) (ws : List (List ℕ)) → length ws ≡ 6 → metric_fault version held ws ≡ None → IsPrintableMetric (metric_of (values ws))
+metric_here version held ws n e = metric_printable (values ws) (length-map ws number_value ∙ n) (metric_fits version held ws e) (values_lowest version ws (metric_numbers version held ws e))
 
-atom_here : (held : Contents) (name : List ℕ) (ws : List (List ℕ)) → is_name name ≡ true → atom_fault held name ws ≡ None → IsPrintableAtom (atom_of name (values ws))
-atom_here held name ws n e =
-    let l = values_lowest ws (atom_numbers held name ws e) in
+atom_here : (version : Version) (held : Contents) (name : List ℕ) (ws : List (List ℕ)) → is_name name ≡ true → atom_fault version held name ws ≡ None → IsPrintableAtom (atom_of name (values ws))
+atom_here version held name ws n e =
+    let l = values_lowest version ws (atom_numbers version held name ws e) in
     let at : (i : ℕ) → IsLowest (number_at (values ws) i) = λ i. number_lowest (values ws) i l in
     record { name = n; position = (at 0, (at 1, (at 2, tt))); moment = (at 3, (at 4, (at 5, tt))) }
 
@@ -139,23 +122,23 @@ atoms-append : (xs : List AtomLine) (a : AtomLine) → ArePrintableAtoms xs → 
 atoms-append [] a h one = (one, tt)
 atoms-append (x ∷ xs) a h one = (h.0, atoms-append xs a h.1 one)
 
-later_printable : (held : Contents) (entry : Entry) → IsEntry entry → entry_fault held entry ≡ None → HoldsPrintable held → HoldsPrintable (with_entry held entry)
-later_printable held skipped n e h = h
-later_printable held (metric_entry ws) n e h = record {
-  metrics = metrics-append held.metrics (metric_of (values ws)) h.metrics (metric_here held ws n e);
+later_printable : (version : Version) (held : Contents) (entry : Entry) → IsEntry entry → entry_fault version held entry ≡ None → HoldsPrintable held → HoldsPrintable (with_entry held entry)
+later_printable version held skipped n e h = h
+later_printable version held (metric_entry ws) n e h = record {
+  metrics = metrics-append held.metrics (metric_of (values ws)) h.metrics (metric_here version held ws n e);
   some = λ ended. omega (arith, length-append held.metrics (metric_of (values ws) ∷ []));
   atoms = h.atoms;
   moments = h.moments;
 }
-later_printable held (atom_entry name ws) n e h = record {
+later_printable version held (atom_entry name ws) n e h = record {
   metrics = h.metrics;
   some = h.some;
-  atoms = atoms-append held.atoms (atom_of name (values ws)) h.atoms (atom_here held name ws n e);
-  moments = moments_fit held name ws e;
+  atoms = atoms-append held.atoms (atom_of name (values ws)) h.atoms (atom_here version held name ws n e);
+  moments = moments_fit version held name ws e;
 }
-later_printable held end_entry n e h = record { metrics = h.metrics; some = λ ended. end_behind_metric held e; atoms = h.atoms; moments = h.moments }
-later_printable held (kind_entry kind) n e h = record { metrics = h.metrics; some = h.some; atoms = h.atoms; moments = h.moments }
-later_printable held other_entry n e h = absurd cc
+later_printable version held end_entry n e h = record { metrics = h.metrics; some = λ ended. end_behind_metric held e; atoms = h.atoms; moments = h.moments }
+later_printable version held (kind_entry kind) n e h = record { metrics = h.metrics; some = h.some; atoms = h.atoms; moments = h.moments }
+later_printable version held other_entry n e h = absurd cc
 
 nothing_printable : HoldsPrintable (contents [])
 unfolding state_after are_moments_in_range moments

@@ -9,6 +9,7 @@ use Rattle.crystal_spec.specs.Moments.{axial_vectors, IsOfKind}
 use Rattle.crystal_spec.specs.Matrices.{Triple}
 use Rattle.crystal_spec.specs.Crystals.{Site, Structure}
 use Rattle.cell_text.specs.declared.atom_line.AtomLine.{AtomLine as CodeAtom}
+use Rattle.crystal.specs.declared.limits.TheConstants.{MOST_ATOMS, MOST_NAMES}
 use Rattle.crystal.specs.Occupants.{NoneAt}
 use Rattle.plain_text.specs.NumberWords.{common_denominator, scaled}
 use Rattle.cell_text.specs.Entries.{AtomLine, ScaledMetric, nothing, positions, moments}
@@ -70,7 +71,7 @@ filled_more kind metric n k all held b later e =
 
 -- ---- the number of a species
 
-pub is_small : (names : List (List ℕ)) (w : List ℕ) (i : ℕ) → i ≡ number_of names w → length names < 512 → i < 65536
+pub is_small : (names : List (List ℕ)) (w : List ℕ) (i : ℕ) → i ≡ number_of names w → length names < MOST_NAMES → i < 65536
 is_small names w i e h = omega (arith, e, number_below names w, with_most names w, h)
 
 pub is_named : (names more : List (List ℕ)) (w : List ℕ) (i : ℕ) → i ≡ number_of names w → more ≡ with_name names w → i < length more
@@ -119,11 +120,11 @@ free_more kind metric n k all held b later cell e is some apart view =
     let divide : AllDivide n all = subst (λ (m : ℕ). AllDivide m all) (sym is) (all_divide 1 all) in
     subst (λ (s : Structure). NoneAt (position_of s.n b) s.sites) (sym view) (none_before (names_of all) n k held b later some (subst (AllDivide n) e divide) (subst AreApart e apart))
 
-pub fewer_sites : (kind : MomentKind) (metric : ScaledMetric) (n k : ℕ) (all held : List AtomLine) (b : AtomLine) (later : List AtomLine) (cell : Structure) → all ≡ held ++ b ∷ later → length all ≤ 512 → cell ≡ filled kind metric n k all held → length cell.sites < 512
+pub fewer_sites : (kind : MomentKind) (metric : ScaledMetric) (n k : ℕ) (all held : List AtomLine) (b : AtomLine) (later : List AtomLine) (cell : Structure) → all ≡ held ++ b ∷ later → length all ≤ MOST_ATOMS → cell ≡ filled kind metric n k all held → length cell.sites < MOST_ATOMS
 fewer_sites kind metric n k all held b later cell e few view =
     omega (arith, ap (λ (s : Structure). length s.sites) view, length-map held (site_of (names_of all) n k), ap length e, length-append held (b ∷ later), few)
 
-pub fewer_names : (kind : MomentKind) (metric : ScaledMetric) (n k : ℕ) (all held : List AtomLine) (b : AtomLine) (later : List AtomLine) (cell : Structure) → all ≡ held ++ b ∷ later → length all ≤ 512 → cell ≡ filled kind metric n k all held → length cell.names < 512
+pub fewer_names : (kind : MomentKind) (metric : ScaledMetric) (n k : ℕ) (all held : List AtomLine) (b : AtomLine) (later : List AtomLine) (cell : Structure) → all ≡ held ++ b ∷ later → length all ≤ MOST_ATOMS → cell ≡ filled kind metric n k all held → length cell.names < MOST_NAMES
 fewer_names kind metric n k all held b later cell e few view =
     omega (arith, ap (λ (s : Structure). length s.names) view, names_at_most held, ap length e, length-append held (b ∷ later), few)
 

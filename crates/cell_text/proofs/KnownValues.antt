@@ -345,10 +345,6 @@ vector_of_one_number_in_version_1 : cell_fault (text_of (codes "magcell 1" ∷ c
 unfolding cell_fault heading_fault later_fault metric_fault kind_fault atom_fault place_fault end_fault state_after version_of entry_of has_bad_byte is_metric_in_range is_positive are_positions_in_range are_moments_in_range positions moments same_place gcd lcm word_fault number_fault number_value lowest
 vector_of_one_number_in_version_1 = refl
 
-point_in_version_2 : cell_fault (text_of (codes "magcell 2" ∷ codes "metric 1 1 1 0 0 0" ∷ codes "atom A 0.5 0 0" ∷ [])) ≡ Some (3, BadNumber)
-unfolding cell_fault heading_fault later_fault metric_fault kind_fault atom_fault place_fault end_fault state_after version_of entry_of has_bad_byte is_metric_in_range is_positive are_positions_in_range are_moments_in_range positions moments same_place gcd lcm word_fault number_fault number_value lowest
-point_in_version_2 = refl
-
 -- the scalars 1, -1/2 and 0
 abbrev scalars : List (List ℕ)
 scalars = codes "magcell 2" ∷ codes "kind scalar axial" ∷ codes "atom A 0 0 0 1" ∷ codes "atom A 0 0 1/2 -1/2" ∷ codes "atom A 1/2 0 0" ∷ codes "metric 1 1 4 0 0 0" ∷ codes "end" ∷ []
@@ -371,7 +367,71 @@ vectors_by_default : (cell_of (lines (text_of (codes "magcell 2" ∷ codes "metr
 unfolding cell_fault heading_fault later_fault metric_fault kind_fault atom_fault place_fault end_fault state_after version_of entry_of has_bad_byte is_metric_in_range is_positive are_positions_in_range are_moments_in_range positions moments same_place gcd lcm word_fault number_fault number_value lowest names_of cell_with residue
 vectors_by_default = refl
 
--- the 513th atom line
-too_many : fault_after (codes "magcell 1" ∷ replicate 512 (codes "atom A 0 0 0")) (codes "atom A 0 0 0") ≡ Some TooManyAtoms
+-- ---- decimals
+
+decimal_in_version_1 : cell_fault (text_of (codes "magcell 1" ∷ codes "metric 1 1 1 0 0 0" ∷ codes "atom A 0.5 0 0" ∷ [])) ≡ Some (3, BadNumber)
+unfolding cell_fault heading_fault later_fault metric_fault kind_fault atom_fault place_fault end_fault state_after version_of entry_of has_bad_byte is_metric_in_range is_positive are_positions_in_range are_moments_in_range positions moments same_place gcd lcm word_fault number_fault number_value lowest
+decimal_in_version_1 = refl
+
+decimal_in_version_2 : cell_fault (text_of (codes "magcell 2" ∷ codes "metric 1 1 1 0 0 0" ∷ codes "atom A 0.5 0 0" ∷ codes "end" ∷ [])) ≡ None
+unfolding cell_fault heading_fault later_fault metric_fault kind_fault atom_fault place_fault end_fault state_after version_of entry_of has_bad_byte is_metric_in_range is_positive are_positions_in_range are_moments_in_range positions moments same_place gcd lcm word_fault number_fault number_value lowest
+decimal_in_version_2 = refl
+
+-- 10^7 is no denominator of positions
+seven_digits_behind_the_point : cell_fault (text_of (codes "magcell 2" ∷ codes "metric 1 1 1 0 0 0" ∷ codes "atom A 0.1234567 0 0" ∷ [])) ≡ Some (3, PositionRange)
+unfolding cell_fault heading_fault later_fault metric_fault kind_fault atom_fault place_fault end_fault state_after version_of entry_of has_bad_byte is_metric_in_range is_positive are_positions_in_range are_moments_in_range positions moments same_place gcd lcm word_fault number_fault number_value lowest
+seven_digits_behind_the_point = refl
+
+numbers_in_version_2 : map (word_fault Two) (codes "0.25" ∷ codes "-0.0" ∷ codes "00.50" ∷ codes "-7" ∷ codes "1/4" ∷ (codes "0." ++ replicate 17 57) ∷ (replicate 17 57 ++ codes ".9") ∷ []) ≡ replicate 7 None
+unfolding word_fault number_fault
+numbers_in_version_2 = refl
+
+no_numbers_in_version_2 : map (word_fault Two) (codes "1." ∷ codes ".5" ∷ codes "." ∷ codes "1.5/2" ∷ codes "1/2.5" ∷ codes "1e3" ∷ codes "1.2.3" ∷ []) ≡ replicate 7 (Some BadNumber)
+unfolding word_fault number_fault
+no_numbers_in_version_2 = refl
+
+-- 19 digits before and behind the point together
+long_numbers_in_version_2 : map (word_fault Two) ((codes "0." ++ replicate 18 57) ∷ (replicate 18 57 ++ codes ".0") ∷ (codes "-1.5" ++ replicate 17 48) ∷ replicate 19 48 ∷ []) ≡ replicate 4 (Some NumberRange)
+unfolding word_fault number_fault
+long_numbers_in_version_2 = refl
+
+over_zero_in_version_2 : word_fault Two (codes "1/0") ≡ Some ZeroDenominator
+unfolding word_fault number_fault
+over_zero_in_version_2 = refl
+
+-- a point is no part of a number, however many digits there are
+no_decimals_in_version_1 : map (word_fault One) (codes "0.25" ∷ codes "-0.0" ∷ codes "1." ∷ codes ".5" ∷ codes "1.5/2" ∷ codes "1/2.5" ∷ codes "1e3" ∷ (codes "0." ++ replicate 18 57) ∷ []) ≡ replicate 8 (Some BadNumber)
+unfolding word_fault number_fault
+no_decimals_in_version_1 = refl
+
+-- the first word that is no number is told, with its own rule
+first_word_in_version_2 : cell_fault (text_of (codes "magcell 2" ∷ (codes "metric 1.5 0." ++ replicate 18 49 ++ codes " 1. 1/0 0 0") ∷ [])) ≡ Some (2, NumberRange)
+unfolding cell_fault heading_fault later_fault metric_fault kind_fault atom_fault place_fault end_fault state_after version_of entry_of has_bad_byte is_metric_in_range is_positive are_positions_in_range are_moments_in_range positions moments same_place gcd lcm word_fault number_fault number_value lowest
+first_word_in_version_2 = refl
+
+first_word_in_version_1 : cell_fault (text_of (codes "magcell 1" ∷ (codes "metric 1 0." ++ replicate 18 49 ++ codes " 1. 1/0 0 0") ∷ [])) ≡ Some (2, BadNumber)
+unfolding cell_fault heading_fault later_fault metric_fault kind_fault atom_fault place_fault end_fault state_after version_of entry_of has_bad_byte is_metric_in_range is_positive are_positions_in_range are_moments_in_range positions moments same_place gcd lcm word_fault number_fault number_value lowest
+first_word_in_version_1 = refl
+
+-- decimals and the fractions that they are spell one cell
+abbrev decimal_cell : List (List ℕ)
+decimal_cell = codes "magcell 2" ∷ codes "metric 23.75 23.75 10.96 0 0 -0.0" ∷ codes "atom Mn 0.50 0.5 1.5 0 0 -1.25" ∷ codes "atom F 0.305 -0.305 0" ∷ codes "end" ∷ []
+
+abbrev fraction_cell : List (List ℕ)
+fraction_cell = codes "magcell 2" ∷ codes "metric 95/4 95/4 274/25 0 0 0" ∷ codes "atom Mn 1/2 1/2 3/2 0 0 -5/4" ∷ codes "atom F 61/200 -61/200 0" ∷ codes "end" ∷ []
+
+decimals_are_fractions : (cell_fault (text_of decimal_cell) ≡ None) × (cell_of (lines (text_of decimal_cell)) ≡ cell_of (lines (text_of fraction_cell)))
+unfolding cell_fault heading_fault later_fault metric_fault kind_fault atom_fault place_fault end_fault state_after version_of entry_of has_bad_byte is_metric_in_range is_positive are_positions_in_range are_moments_in_range positions moments same_place gcd lcm word_fault number_fault number_value lowest names_of cell_with residue
+decimals_are_fractions = (refl, refl)
+
+-- ---- the number of atoms
+
+-- the 1,025th atom line
+too_many : fault_after (codes "magcell 1" ∷ replicate 1024 (codes "atom A 0 0 0")) (codes "atom A 0 0 0") ≡ Some TooManyAtoms
 unfolding cell_fault heading_fault later_fault metric_fault atom_fault place_fault end_fault state_after version_of entry_of has_bad_byte is_metric_in_range is_positive are_positions_in_range are_moments_in_range positions moments same_place gcd lcm word_fault number_fault number_value lowest
 too_many = refl
+
+-- the 1,024th, which breaks a later rule
+not_too_many : fault_after (codes "magcell 1" ∷ replicate 1023 (codes "atom A 0 0 0")) (codes "atom A 0 0 0") ≡ Some (SamePlace 1 1024)
+unfolding cell_fault heading_fault later_fault metric_fault atom_fault place_fault end_fault state_after version_of entry_of has_bad_byte is_metric_in_range is_positive are_positions_in_range are_moments_in_range positions moments same_place gcd lcm word_fault number_fault number_value lowest
+not_too_many = refl

@@ -3,6 +3,7 @@
 --   text_ends    the lines have an `end`
 use Rattle.std.proofs.Common.{◌≡◌, ℕ, zero, suc, ◌+◌, ◌<◌, Bool, true, false, List, [], ◌∷◌, ◌++◌, length, map, get_or, Option, Some, None, refl, sym, subst, append_assoc, append-nil, arith}
 use Rattle.std.specs.Prelude.{not, ◌==◌, nat_le}
+use Rattle.crystal.specs.declared.limits.TheConstants.{MOST_ATOMS}
 use Rattle.cell_text.specs.declared.version.Version.{Version}
 use Rattle.cell_text.specs.declared.fault.CellFault.{CellFault}
 use Rattle.cell_text.specs.declared.fault.CellFault.TheVariants.{BadByte, BadLine, MetricTwice, MetricMissing, MetricRange, NotPositive, PositionRange, MomentRange, TooManyAtoms, NoAtom, NoEnd, AfterEnd}
@@ -27,10 +28,10 @@ kept false f e = absurd cc
 
 -- ---- the rules of metric lines, atom lines and end lines, in order
 
-abbrev metric_faults : Contents → List (List ℕ) → List (Option CellFault)
-metric_faults held ws =
+abbrev metric_faults : Version → Contents → List (List ℕ) → List (Option CellFault)
+metric_faults version held ws =
     when (not (length held.metrics == 0)) MetricTwice
-    ∷ first_of (map word_fault ws)
+    ∷ first_of (map (word_fault version) ws)
     ∷ when (not (is_metric_in_range (values ws))) MetricRange
     ∷ when (not (is_positive (metric_of (values ws)).entries)) NotPositive
     ∷ []
@@ -42,11 +43,11 @@ place_faults held a =
     ∷ same_place held.atoms a
     ∷ []
 
-abbrev atom_faults : Contents → List ℕ → List (List ℕ) → List (Option CellFault)
-atom_faults held name ws =
+abbrev atom_faults : Version → Contents → List ℕ → List (List ℕ) → List (Option CellFault)
+atom_faults version held name ws =
     when (not (are_numbers_of (kind_of held) (length ws))) BadLine
-    ∷ when (nat_le 512 (length held.atoms)) TooManyAtoms
-    ∷ first_of (map word_fault ws)
+    ∷ when (nat_le MOST_ATOMS (length held.atoms)) TooManyAtoms
+    ∷ first_of (map (word_fault version) ws)
     ∷ place_fault held (atom_of name (values ws))
     ∷ []
 
@@ -54,26 +55,26 @@ abbrev end_faults : Contents → List (Option CellFault)
 end_faults held = when (length held.metrics == 0) MetricMissing ∷ when (length held.atoms == 0) NoAtom ∷ []
 
 -- the words of a metric line are numbers
-pub metric_numbers : (held : Contents) (ws : List (List ℕ)) → metric_fault held ws ≡ None → first_of (map word_fault ws) ≡ None
+pub metric_numbers : (version : Version) (held : Contents) (ws : List (List ℕ)) → metric_fault version held ws ≡ None → first_of (map (word_fault version) ws) ≡ None
 unfolding metric_fault
-metric_numbers held ws e = all_none (metric_faults held ws) 1 e
+metric_numbers version held ws e = all_none (metric_faults version held ws) 1 e
 
 -- its metric tensor is within its range
-pub metric_fits : (held : Contents) (ws : List (List ℕ)) → metric_fault held ws ≡ None → is_metric_in_range (values ws) ≡ true
+pub metric_fits : (version : Version) (held : Contents) (ws : List (List ℕ)) → metric_fault version held ws ≡ None → is_metric_in_range (values ws) ≡ true
 unfolding metric_fault
-metric_fits held ws e = kept (is_metric_in_range (values ws)) MetricRange (all_none (metric_faults held ws) 2 e)
+metric_fits version held ws e = kept (is_metric_in_range (values ws)) MetricRange (all_none (metric_faults version held ws) 2 e)
 
 -- the words of an atom line are numbers
-pub atom_numbers : (held : Contents) (name : List ℕ) (ws : List (List ℕ)) → atom_fault held name ws ≡ None → first_of (map word_fault ws) ≡ None
+pub atom_numbers : (version : Version) (held : Contents) (name : List ℕ) (ws : List (List ℕ)) → atom_fault version held name ws ≡ None → first_of (map (word_fault version) ws) ≡ None
 unfolding atom_fault
-atom_numbers held name ws e = all_none (atom_faults held name ws) 2 e
+atom_numbers version held name ws e = all_none (atom_faults version held name ws) 2 e
 
 -- moments are within their range with its moment
-pub moments_fit : (held : Contents) (name : List ℕ) (ws : List (List ℕ)) → atom_fault held name ws ≡ None → are_moments_in_range (held.atoms ++ atom_of name (values ws) ∷ []) ≡ true
+pub moments_fit : (version : Version) (held : Contents) (name : List ℕ) (ws : List (List ℕ)) → atom_fault version held name ws ≡ None → are_moments_in_range (held.atoms ++ atom_of name (values ws) ∷ []) ≡ true
 unfolding atom_fault place_fault
-moments_fit held name ws e =
+moments_fit version held name ws e =
     let a = atom_of name (values ws) in
-    kept (are_moments_in_range (held.atoms ++ a ∷ [])) MomentRange (all_none (place_faults held a) 1 (all_none (atom_faults held name ws) 3 e))
+    kept (are_moments_in_range (held.atoms ++ a ∷ [])) MomentRange (all_none (place_faults held a) 1 (all_none (atom_faults version held name ws) 3 e))
 
 not_missing : (n : ℕ) → when (n == 0) MetricMissing ≡ None → 0 < n
 not_missing zero e = absurd cc
@@ -84,18 +85,18 @@ pub end_behind_metric : (held : Contents) → end_fault held ≡ None → 0 < le
 unfolding end_fault
 end_behind_metric held e = not_missing (length held.metrics) (all_none (end_faults held) 0 e)
 
-abbrev later_faults : Contents → List ℕ → Entry → List (Option CellFault)
-later_faults held line entry = when (has_bad_byte line) BadByte ∷ when held.ended AfterEnd ∷ entry_fault held entry ∷ []
+abbrev later_faults : Version → Contents → List ℕ → Entry → List (Option CellFault)
+later_faults version held line entry = when (has_bad_byte line) BadByte ∷ when held.ended AfterEnd ∷ entry_fault version held entry ∷ []
 
 -- a later line that breaks no rule breaks none of its form
-later_passed : (held : Contents) (line : List ℕ) (entry : Entry) → later_fault held line entry ≡ None → entry_fault held entry ≡ None
+later_passed : (version : Version) (held : Contents) (line : List ℕ) (entry : Entry) → later_fault version held line entry ≡ None → entry_fault version held entry ≡ None
 unfolding later_fault
-later_passed held line skipped e = refl
-later_passed held line (metric_entry ws) e = all_none (later_faults held line (metric_entry ws)) 2 e
-later_passed held line (atom_entry name ws) e = all_none (later_faults held line (atom_entry name ws)) 2 e
-later_passed held line end_entry e = all_none (later_faults held line end_entry) 2 e
-later_passed held line (kind_entry kind) e = all_none (later_faults held line (kind_entry kind)) 2 e
-later_passed held line other_entry e = all_none (later_faults held line other_entry) 2 e
+later_passed version held line skipped e = refl
+later_passed version held line (metric_entry ws) e = all_none (later_faults version held line (metric_entry ws)) 2 e
+later_passed version held line (atom_entry name ws) e = all_none (later_faults version held line (atom_entry name ws)) 2 e
+later_passed version held line end_entry e = all_none (later_faults version held line end_entry) 2 e
+later_passed version held line (kind_entry kind) e = all_none (later_faults version held line (kind_entry kind)) 2 e
+later_passed version held line other_entry e = all_none (later_faults version held line other_entry) 2 e
 
 -- ---- all lines
 
@@ -104,10 +105,10 @@ abbrev after_line : List (List ℕ) → List ℕ → List (List ℕ) → Option 
 after_line before line later (Some fault) = Some (length before + 1, fault)
 after_line before line later None = first_fault (before ++ line ∷ []) later
 
-module _ (Holds : Contents → Type 0) (step : (held : Contents) (entry : Entry) → IsEntry entry → entry_fault held entry ≡ None → Holds held → Holds (with_entry held entry)) where
+module _ (Holds : Contents → Type 0) (step : (version : Version) (held : Contents) (entry : Entry) → IsEntry entry → entry_fault version held entry ≡ None → Holds held → Holds (with_entry held entry)) where
   next_holds : (version : Option Version) (held : Contents) (line : List ℕ) → judged_by version held line ≡ None → Holds held → Holds (next_state version held line).held
   next_holds None held line e h = h
-  next_holds (Some version) held line e h = step held (entry_of version line) (entry_is version line) (later_passed held line (entry_of version line) e) h
+  next_holds (Some version) held line e h = step version held (entry_of version line) (entry_is version line) (later_passed version held line (entry_of version line) e) h
 
   line_holds : (s : State) (line : List ℕ) → judged s line ≡ None → Holds s.held → Holds (with_line s line).held
   line_holds s line e h = next_holds s.version s.held line e h

@@ -14,8 +14,8 @@ use Rattle.cell_text.specs.Views.{Refuses, Judges}
 use Rattle.cell_text.proofs.Judging.{state_after-more}
 
 -- a later line of a file whose version is known
-pub judged-later : (s : State) (version : Version) (line : List ℕ) (entry : Entry) → s.version ≡ Some version → entry ≡ entry_of version line → later_fault s.held line entry ≡ judged s line
-judged-later s version line entry v e = ap (later_fault s.held line) e ∙ ap (λ (o : Option Version). judged_by o s.held line) (sym v)
+pub judged-later : (s : State) (version : Version) (line : List ℕ) (entry : Entry) → s.version ≡ Some version → entry ≡ entry_of version line → later_fault version s.held line entry ≡ judged s line
+judged-later s version line entry v e = ap (later_fault version s.held line) e ∙ ap (λ (o : Option Version). judged_by o s.held line) (sym v)
 
 pub with_line-later : (s : State) (version : Version) (line : List ℕ) (entry : Entry) → s.version ≡ Some version → entry ≡ entry_of version line → state_with s.version (with_entry s.held entry) ≡ with_line s line
 with_line-later s version line entry v e =

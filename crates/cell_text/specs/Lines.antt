@@ -2,7 +2,7 @@
 --   version_of line      the version that the first line tells, or none where it tells none
 --   kind_of_words ws     the kind of moments that the words behind `kind` tell, or none where they tell none
 --   Entry, entry_of v l  what a later line of a file of this version is, with the words that it carries
---   word_fault w         the rule that a word breaks that is to be a number
+--   word_fault v w       the rule that a word breaks that is to be a number, in a file of this version
 -- The format is our own.
 use Rattle.std.specs.Prelude.{ℕ, Bool, true, false, ◌==◌, ◌||◌, ◌&&◌, List, [], ◌∷◌, length, get_or, if◌then◌else◌, nat_eq, codes}
 use Rattle.std.specs.Cmp.Lexicographic.{pointwise}
@@ -11,6 +11,8 @@ use Rattle.std.specs.declared.option.Option.TheVariants.{Some, None}
 use Rattle.crystal_spec.specs.declared.MomentKind.{MomentKind}
 use Rattle.crystal.specs.Names.{is_name}
 use Rattle.plain_text.specs.Text.{words}
+use Rattle.plain_text.specs.declared.number_form.NumberForm.{NumberForm}
+use Rattle.plain_text.specs.declared.number_form.NumberForm.TheVariants as forms
 use Rattle.plain_text.specs.declared.fault.NumberFault.{NumberFault}
 use Rattle.plain_text.specs.declared.fault.NumberFault.TheVariants as numbers
 use Rattle.plain_text.specs.NumberWords.{number_fault}
@@ -156,6 +158,11 @@ abbrev pub rule_of_any : Option NumberFault → Option CellFault
 rule_of_any None = None
 rule_of_any (Some fault) = Some (rule_of fault)
 
+-- Version 1 has fractions alone, version 2 decimals too.
+abbrev pub number_form : Version → NumberForm
+number_form One = forms.Fraction
+number_form Two = forms.FractionOrDecimal
+
 -- the rule that a word breaks that is to be a number
-unfoldable pub word_fault : List ℕ → Option CellFault
-word_fault word = rule_of_any (number_fault word)
+unfoldable pub word_fault : Version → List ℕ → Option CellFault
+word_fault version word = rule_of_any (number_fault (number_form version) word)

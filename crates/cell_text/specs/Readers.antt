@@ -5,6 +5,7 @@ use Rattle.std.specs.declared.option.Option.{Option}
 use Rattle.std.specs.declared.option.Option.TheVariants.{Some, None}
 use Rattle.crystal_spec.specs.declared.MomentKind.{MomentKind}
 use Rattle.crystal_spec.specs.Moments.{axial_vectors}
+use Rattle.crystal.specs.declared.limits.TheConstants.{MOST_ATOMS}
 use Rattle.crystal.specs.Views.{metric_of as tensor}
 use Rattle.plain_text.specs.NumberWords.{common_denominator, scaled}
 use Rattle.cell_text.specs.Entries.{ScaledMetric, State, positions, moments, is_billion, is_positive}
@@ -44,7 +45,7 @@ pub record IsReader (r : Inside) : Type 0 where
   pub n_within : r.n ≤ 1000000
   pub k_within : r.k ≤ 1000000
   pub moments_within : list_all (λ m. is_billion (scaled r.k m)) (moments (map atom_view r.atoms.items)) ≡ true
-  pub few : length r.atoms.items ≤ 512
+  pub few : length r.atoms.items ≤ MOST_ATOMS
   pub apart : AreApart (map atom_view r.atoms.items)
   pub of_kind : AreOfKind (kind_or_default r.kind) (map atom_view r.atoms.items)
   pub positive : IsPositiveIfThere r.metric

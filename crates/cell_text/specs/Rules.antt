@@ -1,5 +1,5 @@
 -- The rules of a cell file, and the first line that breaks one.
---   entry_fault held e     the first rule that an entry breaks behind lines with these contents
+--   entry_fault v held e   the first rule that an entry of a file of this version breaks behind lines with these contents
 --   fault_after before l   the first rule that the line l breaks behind the lines before it
 --   fault_at_end before    what is wrong where the text ends behind these lines
 --   cell_fault text        the first line that breaks a rule, counted from 1, and which rule
@@ -9,6 +9,7 @@ use Rattle.std.specs.Prelude.{◌≡◌, ⊤, ℕ, ◌+◌, Bool, true, false, n
 use Rattle.std.specs.declared.option.Option.{Option}
 use Rattle.std.specs.declared.option.Option.TheVariants.{Some, None}
 use Rattle.crystal_spec.specs.declared.MomentKind.{MomentKind}
+use Rattle.crystal.specs.declared.limits.TheConstants.{MOST_ATOMS}
 use Rattle.cell_text.specs.declared.version.Version.{Version}
 use Rattle.cell_text.specs.declared.fault.CellFault.{CellFault}
 use Rattle.cell_text.specs.declared.fault.CellError.{CellError}
@@ -35,11 +36,11 @@ heading_fault line = first_of
     ∷ when (is_none (version_of line)) NotMagcell
     ∷ [])
 
--- A metric line with these words, behind lines with these contents.
-unfoldable pub metric_fault : Contents → List (List ℕ) → Option CellFault
-metric_fault before ws = first_of
+-- A metric line with these words in a file of this version, behind lines with these contents.
+unfoldable pub metric_fault : Version → Contents → List (List ℕ) → Option CellFault
+metric_fault version before ws = first_of
     (when (not (length before.metrics == 0)) MetricTwice
-    ∷ first_of (map word_fault ws)
+    ∷ first_of (map (word_fault version) ws)
     ∷ when (not (is_metric_in_range (values ws))) MetricRange
     ∷ when (not (is_positive (metric_of (values ws)).entries)) NotPositive
     ∷ [])
@@ -63,12 +64,12 @@ kind_fault before = first_of
 abbrev pub are_numbers_of : MomentKind → ℕ → Bool
 are_numbers_of kind count = count == 3 || count == (if kind.vector then 6 else 4)
 
--- An atom line with this name and these words.
-unfoldable pub atom_fault : Contents → List ℕ → List (List ℕ) → Option CellFault
-atom_fault before name ws = first_of
+-- An atom line with this name and these words in such a file.
+unfoldable pub atom_fault : Version → Contents → List ℕ → List (List ℕ) → Option CellFault
+atom_fault version before name ws = first_of
     (when (not (are_numbers_of (kind_of before) (length ws))) BadLine
-    ∷ when (nat_le 512 (length before.atoms)) TooManyAtoms
-    ∷ first_of (map word_fault ws)
+    ∷ when (nat_le MOST_ATOMS (length before.atoms)) TooManyAtoms
+    ∷ first_of (map (word_fault version) ws)
     ∷ place_fault before (atom_of name (values ws))
     ∷ [])
 
@@ -79,14 +80,14 @@ end_fault before = first_of
     ∷ when (length before.atoms == 0) NoAtom
     ∷ [])
 
--- A line, by its form.
-abbrev pub entry_fault : Contents → Entry → Option CellFault
-entry_fault before skipped = None
-entry_fault before (metric_entry ws) = metric_fault before ws
-entry_fault before (atom_entry name ws) = atom_fault before name ws
-entry_fault before end_entry = end_fault before
-entry_fault before (kind_entry kind) = kind_fault before
-entry_fault before other_entry = Some BadLine
+-- A line of a file of this version, by its form.
+abbrev pub entry_fault : Version → Contents → Entry → Option CellFault
+entry_fault version before skipped = None
+entry_fault version before (metric_entry ws) = metric_fault version before ws
+entry_fault version before (atom_entry name ws) = atom_fault version before name ws
+entry_fault version before end_entry = end_fault before
+entry_fault version before (kind_entry kind) = kind_fault before
+entry_fault version before other_entry = Some BadLine
 
 abbrev pub is_skipped : Entry → Bool
 is_skipped skipped = true
@@ -96,18 +97,18 @@ is_skipped end_entry = false
 is_skipped (kind_entry kind) = false
 is_skipped other_entry = false
 
--- A later line, which is this entry. One that is skipped breaks no rule.
-unfoldable pub later_fault : Contents → List ℕ → Entry → Option CellFault
-later_fault before line entry = if is_skipped entry then None else first_of
+-- A later line of such a file, which is this entry. One that is skipped breaks no rule.
+unfoldable pub later_fault : Version → Contents → List ℕ → Entry → Option CellFault
+later_fault version before line entry = if is_skipped entry then None else first_of
     (when (has_bad_byte line) BadByte
     ∷ when before.ended AfterEnd
-    ∷ entry_fault before entry
+    ∷ entry_fault version before entry
     ∷ [])
 
 -- The first rule that a line breaks. Where no version is known it is the first line, and is never skipped.
 abbrev pub judged_by : Option Version → Contents → List ℕ → Option CellFault
 judged_by None before line = heading_fault line
-judged_by (Some version) before line = later_fault before line (entry_of version line)
+judged_by (Some version) before line = later_fault version before line (entry_of version line)
 
 abbrev pub judged : State → List ℕ → Option CellFault
 judged before line = judged_by before.version before.held line

@@ -1,6 +1,7 @@
 -- What the values of the code stand for.
 --   atom_view a, entry_view form   the atom of a line, and what the line is
---   ReadsWords ws IsRead result    the result is read from these number words, or is the first rule that one of them breaks
+--   ReadsWords v ws IsRead result  the result is read from these number words of a file of this version, or is the first rule
+--                                  that one of them breaks
 --   Judges fault result            the result is this fault, or the fault is none; memory may always want
 --   AreApart as                    no two of these atoms stand at one position
 --   AreOfKind kind as              where moments are scalars, each of these is s 0 0
@@ -13,6 +14,7 @@ use Rattle.std.specs.declared.result.Result.TheVariants.{Ok, Err}
 use Rattle.numbers.specs.Fraction.{Fraction}
 use Rattle.crystal_spec.specs.declared.MomentKind.{MomentKind}
 use Rattle.plain_text.specs.Views.{fraction_of}
+use Rattle.cell_text.specs.declared.version.Version.{Version}
 use Rattle.cell_text.specs.declared.fault.CellFault.{CellFault}
 use Rattle.cell_text.specs.declared.fault.CellError.{CellError}
 use Rattle.cell_text.specs.declared.fault.CellError.TheVariants as answers
@@ -66,9 +68,9 @@ atom_view a = record {
   mc = fraction_of a.moment.c;
 }
 
--- This is read from words that are numbers, or is the first rule that one of them breaks.
-abbrev pub ReadsWords : {X : Type 0} → List (List ℕ) → (X → Type 0) → Result X CellFault → Type 0
-ReadsWords ws IsRead result = MatchResult result (λ x. (first_of (map word_fault ws) ≡ None) × IsRead x) (λ fault. first_of (map word_fault ws) ≡ Some fault)
+-- This is read from words that are numbers in a file of this version, or is the first rule that one of them breaks.
+abbrev pub ReadsWords : {X : Type 0} → Version → List (List ℕ) → (X → Type 0) → Result X CellFault → Type 0
+ReadsWords version ws IsRead result = MatchResult result (λ x. (first_of (map (word_fault version) ws) ≡ None) × IsRead x) (λ fault. first_of (map (word_fault version) ws) ≡ Some fault)
 
 -- a refusal whose fault should be this; memory may always want
 abbrev pub Refuses : Option CellFault → LineError → Type 0

@@ -10,7 +10,8 @@ use crate::atom_line::AtomLine;
 use crate::fault::CellFault;
 use crate::number_words::{are_billions, read_numbers, read_scalar};
 use crate::three::{MomentWords, ThreeNumbers, ThreeWords};
-use crystal::{MomentKind, Name};
+use crate::version::Version;
+use crystal::{MOST_ATOMS, MomentKind, Name};
 use plain_text::{is_same_modulo_1, zero};
 
 /// Whether these are the words of a moment of this kind.
@@ -24,13 +25,13 @@ pub(crate) fn is_of_kind(kind: MomentKind, words: &MomentWords) -> bool
     }
 }
 
-/// The moment that its words spell, 0 where there are none; or the first rule that a word breaks.
-fn read_moment(words: MomentWords) -> Result<ThreeNumbers, CellFault>
-    ensures { ReadsWords (moment_view words.entry) (λ f. numbers_view f ≡ first_three (values (moment_view words.entry))) result }
+/// The moment that its words spell in a file of this version, 0 where there are none; or the first rule that a word breaks.
+fn read_moment(version: Version, words: MomentWords) -> Result<ThreeNumbers, CellFault>
+    ensures { ReadsWords version (moment_view words.entry) (λ f. numbers_view f ≡ first_three (values (moment_view words.entry))) result }
 {
     match words {
-        MomentWords::Vector(words) => read_numbers(words),
-        MomentWords::Scalar(word) => read_scalar(word),
+        MomentWords::Vector(words) => read_numbers(version, words),
+        MomentWords::Scalar(word) => read_scalar(version, word),
         MomentWords::Absent => Ok(ThreeNumbers {
             a: zero(),
             b: zero(),
@@ -39,16 +40,17 @@ fn read_moment(words: MomentWords) -> Result<ThreeNumbers, CellFault>
     }
 }
 
-/// What an atom line says, or the first rule that a word breaks that is to be a number.
+/// What an atom line of a file of this version says, or the first rule that a word breaks that is to be a number.
 pub(crate) fn read_atom(
+    version: Version,
     name: Name,
     position: ThreeWords,
     moment: MomentWords,
 ) -> Result<AtomLine, CellFault>
-    ensures { ReadsWords (words_view position.entry ++ moment_view moment.entry) (λ a. atom_view a ≡ atom_of name (values (words_view position.entry ++ moment_view moment.entry))) result }
+    ensures { ReadsWords version (words_view position.entry ++ moment_view moment.entry) (λ a. atom_view a ≡ atom_of name (values (words_view position.entry ++ moment_view moment.entry))) result }
 {
-    let position = read_numbers(position)?;
-    let moment = read_moment(moment)?;
+    let position = read_numbers(version, position)?;
+    let moment = read_moment(version, moment)?;
     Ok(AtomLine {
         name,
         position,
@@ -89,7 +91,7 @@ fn is_same_place(a: &AtomLine, b: &AtomLine) -> bool
 /// The first of these atoms at whose position the next atom stands.
 #[tactic(auto, unfolding(crate::specs::Rules::same_place))]
 pub(crate) fn same_place(atoms: &[AtomLine], b: &AtomLine) -> Result<(), CellFault>
-    requires { length atoms.now ≤ 512 }
+    requires { length atoms.now ≤ MOST_ATOMS }
     ensures { MatchResult result (λ _. same_place (map atom_view atoms.now) (atom_view b.now) ≡ None) (λ e. same_place (map atom_view atoms.now) (atom_view b.now) ≡ Some e) }
 {
     for (i, a) in atoms.iter().enumerate() {

@@ -14,7 +14,7 @@ use crate::atom_line::AtomLine;
 use crate::names::{first_names, number_name};
 use crate::scaled_metric::ScaledMetric;
 use crate::site::{moment_of, position_of};
-use crystal::{Atom, Cell, MomentKind, Name};
+use crystal::{Atom, Cell, MOST_ATOMS, MOST_NAMES, MomentKind, Name};
 use exact_num::Int;
 use indexmap::IndexSet;
 use std::alloc::{AllocError, Global};
@@ -35,7 +35,7 @@ pub(crate) fn kind_or_default(kind: Option<MomentKind>) -> MomentKind
 /// Names the species of this number, unless it has its name.
 fn name_species(cell: &mut Cell, number: usize, name: &Name) -> Result<(), AllocError>
     requires number { number ≡ number_of cell.old.names name.now }
-    requires fewer { length cell.old.names < 512 }
+    requires fewer { length cell.old.names < MOST_NAMES }
     ensures { OnOk result (cell.new ≡ record cell.old { names = with_name cell.old.names name.now }) }
 {
     if number < cell.names() {
@@ -58,8 +58,8 @@ fn add_atom(
     requires k_at_most { cell.old.k ≤ 10 ^ 6 }
     requires of_kind { IsOfKind cell.old.kind (moment_of cell.old.k (atom_view atom.now)) }
     requires free { NoneAt (position_of cell.old.n (atom_view atom.now)) cell.old.sites }
-    requires fewer_names { length cell.old.names < 512 }
-    requires fewer { length cell.old.sites < 512 }
+    requires fewer_names { length cell.old.names < MOST_NAMES }
+    requires fewer { length cell.old.sites < MOST_ATOMS }
     ensures cell { OnOk result (cell.new ≡ with_site cell.old (atom_view atom.now)) }
     ensures names { OnOk result (map (λ v. v.items) names.new.keys ≡ with_name cell.old.names atom.now.name) }
 {
@@ -137,7 +137,7 @@ pub(crate) fn cell_of(
     requires k_at_least { 1 ≤ k }
     requires k_at_most { k ≤ 10 ^ 6 }
     requires some { 0 < length atoms.now }
-    requires few { length atoms.now ≤ 512 }
+    requires few { length atoms.now ≤ MOST_ATOMS }
     requires apart { AreApart (map atom_view atoms.now) }
     requires of_kind { AreOfKind (kind_or_default kind.now) (map atom_view atoms.now) }
     ensures { IfOk result (λ c. c ≡ cell_with (whole_of (kinds_of kind.now) (metric_view metric.now) (map atom_view atoms.now))) }

@@ -23,10 +23,10 @@ pub enum CellFault {
     /// one number behind the position where moments are scalars, three where they are vectors, or none.
     #[error("{text}", text = texts::BAD_LINE)]
     BadLine,
-    /// A word does not have the form of a number.
+    /// A word does not have the form of a number: a fraction or, in version 2, a fraction or a decimal.
     #[error("{text}", text = texts::BAD_NUMBER)]
     BadNumber,
-    /// A numerator or denominator has more than 18 digits.
+    /// A numerator or denominator has more than 18 digits, or a decimal more than 18 before and behind the point together.
     #[error("{text}", text = texts::NUMBER_RANGE)]
     NumberRange,
     /// A denominator is 0.
@@ -56,7 +56,7 @@ pub enum CellFault {
     /// The least common denominator of all moments so far passes 10^6, or a moment times it passes 10^9 in size.
     #[error("{text}", text = texts::MOMENT_RANGE)]
     MomentRange,
-    /// 512 atom lines stood before.
+    /// `MOST_ATOMS` atom lines stood before.
     #[error("{text}", text = texts::TOO_MANY_ATOMS)]
     TooManyAtoms,
     /// An end line stands here, and no atom line stood before.

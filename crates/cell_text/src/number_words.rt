@@ -4,31 +4,44 @@ ghost use Rattle.std.specs.List.{list_all};
 ghost use Rattle.ring.specs.Size.{AtMost};
 ghost use Rattle.plain_text.specs.NumberWords.{scaled};
 ghost use Rattle.plain_text.specs.Views.{fraction_of};
+ghost use Rattle.cell_text.specs.Lines.{number_form};
 ghost use Rattle.cell_text.specs.Entries.{values, is_billion};
 ghost use Rattle.cell_text.specs.Views.{words_view, numbers_view, first_three, ReadsWords};
 
 use crate::fault::CellFault;
 use crate::three::{ThreeNumbers, ThreeWords};
+use crate::version::Version;
 use exact_num::Int;
-use plain_text::{NumberWord, read_number, times, zero};
+use plain_text::{NumberForm, NumberWord, read_number, times, zero};
 
-/// The numbers that three words spell, or the first rule that one of them breaks.
-#[tactic(auto, unfolding(crate::specs::Lines::word_fault))]
-pub(crate) fn read_numbers(words: ThreeWords) -> Result<ThreeNumbers, CellFault>
-    ensures { ReadsWords (words_view words.entry) (λ f. numbers_view f ≡ values (words_view words.entry)) result }
+/// Which numbers a file of this version has.
+fn number_form(version: Version) -> NumberForm
+    ensures { result ≡ number_form version }
 {
-    let a = read_number(words.a)?;
-    let b = read_number(words.b)?;
-    let c = read_number(words.c)?;
+    match version {
+        Version::One => NumberForm::Fraction,
+        Version::Two => NumberForm::FractionOrDecimal,
+    }
+}
+
+/// The numbers that three words of a file of this version spell, or the first rule that one of them breaks.
+#[tactic(auto, unfolding(crate::specs::Lines::word_fault))]
+pub(crate) fn read_numbers(version: Version, words: ThreeWords) -> Result<ThreeNumbers, CellFault>
+    ensures { ReadsWords version (words_view words.entry) (λ f. numbers_view f ≡ values (words_view words.entry)) result }
+{
+    let form = number_form(version);
+    let a = read_number(form, words.a)?;
+    let b = read_number(form, words.b)?;
+    let c = read_number(form, words.c)?;
     Ok(ThreeNumbers { a, b, c })
 }
 
-/// The moment of the scalar that a word spells, or the first rule that the word breaks.
+/// The moment of the scalar that a word of a file of this version spells, or the first rule that the word breaks.
 #[tactic(auto, unfolding(crate::specs::Lines::word_fault))]
-pub(crate) fn read_scalar(word: &[u8]) -> Result<ThreeNumbers, CellFault>
-    ensures { ReadsWords (word.now ∷ []) (λ f. numbers_view f ≡ first_three (values (word.now ∷ []))) result }
+pub(crate) fn read_scalar(version: Version, word: &[u8]) -> Result<ThreeNumbers, CellFault>
+    ensures { ReadsWords version (word.now ∷ []) (λ f. numbers_view f ≡ first_three (values (word.now ∷ []))) result }
 {
-    let a = read_number(word)?;
+    let a = read_number(number_form(version), word)?;
     Ok(ThreeNumbers {
         a,
         b: zero(),

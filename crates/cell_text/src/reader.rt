@@ -19,7 +19,7 @@ use crate::number_words::read_numbers;
 use crate::scaled_metric::ScaledMetric;
 use crate::three::{MomentWords, ThreeWords};
 use crate::version::Version;
-use crystal::{Cell, MomentKind, Name};
+use crystal::{Cell, MOST_ATOMS, MomentKind, Name};
 use plain_text::{grown, has_bad_byte, words};
 use std::alloc::{AllocError, Global};
 use std::marker::Model;
@@ -99,7 +99,7 @@ impl Reader {
 
     /// One more atom.
     fn place(&mut self, atom: AtomLine) -> Result<(), LineError>
-        requires fewer { length self.old.held.atoms < 512 }
+        requires fewer { length self.old.held.atoms < MOST_ATOMS }
         requires of_kind { (kind_of self.old.held).vector ≡ false → IsOfScalar (atom_view atom) }
         ensures judged { Judges (place_fault self.old.held (atom_view atom)) result }
         ensures next { OnOk result (self.new ≡ record self.old { held = with_atom self.old.held (atom_view atom) }) }
@@ -122,38 +122,44 @@ impl Reader {
         Ok(())
     }
 
-    /// An atom line.
+    /// An atom line of a file of this version.
     #[tactic(auto, unfolding(crate::specs::Rules::atom_fault))]
     fn read_atom(
         &mut self,
+        version: Version,
         name: Name,
         position: ThreeWords,
         moment: MomentWords,
     ) -> Result<(), LineError>
-        ensures judged { Judges (atom_fault self.old.held name (words_view position.entry ++ moment_view moment.entry)) result }
+        ensures judged { Judges (atom_fault version self.old.held name (words_view position.entry ++ moment_view moment.entry)) result }
         ensures next { OnOk result (self.new ≡ record self.old { held = with_atom self.old.held (atom_of name (values (words_view position.entry ++ moment_view moment.entry))) }) }
     {
         if !is_of_kind(kind_or_default(self.kind), &moment) {
             return Err(LineError::Fault(CellFault::BadLine));
         }
-        if self.atoms.len() >= 512 {
+        if self.atoms.len() >= MOST_ATOMS {
             return Err(LineError::Fault(CellFault::TooManyAtoms));
         }
-        let atom = read_atom(name, position, moment)?;
+        let atom = read_atom(version, name, position, moment)?;
         self.place(atom)
     }
 
-    /// A metric line.
+    /// A metric line of a file of this version.
     #[tactic(auto, unfolding(crate::specs::Rules::metric_fault))]
-    fn read_metric(&mut self, squares: ThreeWords, products: ThreeWords) -> Result<(), LineError>
-        ensures judged { Judges (metric_fault self.old.held (words_view squares.entry ++ words_view products.entry)) result }
+    fn read_metric(
+        &mut self,
+        version: Version,
+        squares: ThreeWords,
+        products: ThreeWords,
+    ) -> Result<(), LineError>
+        ensures judged { Judges (metric_fault version self.old.held (words_view squares.entry ++ words_view products.entry)) result }
         ensures next { OnOk result (self.new ≡ record self.old { held = with_metric self.old.held (metric_of (values (words_view squares.entry ++ words_view products.entry))) }) }
     {
         if self.metric.is_some() {
             return Err(LineError::Fault(CellFault::MetricTwice));
         }
-        let squares = read_numbers(squares)?;
-        let products = read_numbers(products)?;
+        let squares = read_numbers(version, squares)?;
+        let products = read_numbers(version, products)?;
         let Some(metric) = metric_of(&squares, &products) else {
             return Err(LineError::Fault(CellFault::MetricRange));
         };
@@ -196,25 +202,25 @@ impl Reader {
         Ok(())
     }
 
-    /// A line, by its form.
-    fn read_form(&mut self, form: Form) -> Result<(), LineError>
-        ensures judged { Judges (entry_fault self.old.held (entry_view form.entry)) result }
+    /// A line of a file of this version, by its form.
+    fn read_form(&mut self, version: Version, form: Form) -> Result<(), LineError>
+        ensures judged { Judges (entry_fault version self.old.held (entry_view form.entry)) result }
         ensures next { OnOk result (self.new ≡ record self.old { held = with_entry self.old.held (entry_view form.entry) }) }
     {
         match form {
             Form::Skipped => Ok(()),
-            Form::Metric(squares, products) => self.read_metric(squares, products),
-            Form::Atom(name, position, moment) => self.read_atom(name, position, moment),
+            Form::Metric(squares, products) => self.read_metric(version, squares, products),
+            Form::Atom(name, position, moment) => self.read_atom(version, name, position, moment),
             Form::End => self.read_end(),
             Form::Kind(kind) => self.read_kind(kind),
             Form::Other => Err(LineError::Fault(CellFault::BadLine)),
         }
     }
 
-    /// A later line, which has this form.
+    /// A later line of a file of this version, which has this form.
     #[tactic(auto, unfolding(crate::specs::Rules::later_fault))]
-    fn read_later(&mut self, line: &[u8], form: Form) -> Result<(), LineError>
-        ensures judged { Judges (later_fault self.old.held line.now (entry_view form.entry)) result }
+    fn read_later(&mut self, version: Version, line: &[u8], form: Form) -> Result<(), LineError>
+        ensures judged { Judges (later_fault version self.old.held line.now (entry_view form.entry)) result }
         ensures next { OnOk result (self.new ≡ record self.old { held = with_entry self.old.held (entry_view form.entry) }) }
     {
         if let Form::Skipped = form {
@@ -226,7 +232,7 @@ impl Reader {
         if self.ended {
             return Err(LineError::Fault(CellFault::AfterEnd));
         }
-        self.read_form(form)
+        self.read_form(version, form)
     }
 
     /// The next line of the text.
@@ -239,6 +245,6 @@ impl Reader {
             self.version = Some(heading(line, &words)?);
             return Ok(());
         };
-        self.read_later(line, form_of(version, &words))
+        self.read_later(version, line, form_of(version, &words))
     }
 }

@@ -1,4 +1,4 @@
-// A cell that is read, one with too many atoms, and the texts of refusals. What texts spell, and why others are refused, is
+// Cells that are read, one with too many atoms, and the texts of refusals. What texts spell, and why others are refused, is
 // pinned in `proofs/KnownValues.antt`.
 use crate::{CellError, CellFault, read_cell, texts};
 use crystal::{Cell, MomentKind};
@@ -25,24 +25,32 @@ fn sizes(alloc: Global, text: &[u8]) -> Option<(usize, usize, u32, u32)> {
     Some((cell.count(), cell.names(), cell.n(), cell.k()))
 }
 
-/// The lines of 513 atoms, each at its own position.
-fn crowd(alloc: Global) -> Result<Bytes, AllocError> {
-    let mut text = Bytes::copy(alloc, b"magcell 1\n")?;
-    for i in 0..513u32 {
+/// The text of so many atoms, each at its own position.
+fn crowd(alloc: Global, count: u32) -> Result<Bytes, AllocError> {
+    let mut text = Bytes::copy(alloc, b"magcell 1\nmetric 1 1 1 0 0 0\n")?;
+    for i in 0..count {
         text.append(b"atom A 0 ")?;
         text.append(&[
+            b'0' + (i / 1000 % 10) as u8,
             b'0' + (i / 100 % 10) as u8,
             b'0' + (i / 10 % 10) as u8,
             b'0' + (i % 10) as u8,
         ])?;
-        text.append(b"/1000 0\n")?;
+        text.append(b"/10000 0\n")?;
     }
+    text.append(b"end\n")?;
     Ok(text)
 }
 
-/// Why these lines are refused.
-fn refusal(alloc: Global) -> Option<CellError> {
-    let text = crowd(alloc).ok()?;
+/// The sizes of the cell of so many atoms.
+fn crowd_sizes(alloc: Global, count: u32) -> Option<(usize, usize, u32, u32)> {
+    let text = crowd(alloc, count).ok()?;
+    sizes(alloc, text.as_slice())
+}
+
+/// Why the text of so many atoms is refused.
+fn crowd_refusal(alloc: Global, count: u32) -> Option<CellError> {
+    let text = crowd(alloc, count).ok()?;
     read(alloc, &text).err()
 }
 
@@ -72,9 +80,21 @@ fn scalars_are_read(rt: HostRuntime) {
     assert!(rt; kind(rt.alloc(), SCALARS) == Some(axial_scalars));
 }
 
+/// Two atoms in decimals, between fractions.
+const DECIMALS: &[u8] =
+    b"magcell 2\nmetric 23.75 23.750 1096/100 0 -0.0 0\natom Mn 0.0 0 0 0 0 -2.5\natom F 0.305 -0.305 1/2\nend\n";
+
 #[test]
-fn the_513th_atom_is_refused(rt: HostRuntime) {
-    assert!(rt; refusal(rt.alloc()) == Some(CellError::Refused(514, CellFault::TooManyAtoms)));
+fn decimals_are_read(rt: HostRuntime) {
+    assert!(rt; sizes(rt.alloc(), DECIMALS) == Some((2, 2, 200, 2)));
+}
+
+#[test]
+fn the_1025th_atom_is_refused(rt: HostRuntime) {
+    assert!(rt; crowd_sizes(rt.alloc(), 1024) == Some((1024, 1, 10_000, 1)));
+    assert!(rt;
+        crowd_refusal(rt.alloc(), 1025) == Some(CellError::Refused(1027, CellFault::TooManyAtoms))
+    );
 }
 
 /// A rule, and what is said where it is broken.

@@ -35,7 +35,7 @@ pub const POSITION_RANGE: &str = "positions have no common denominator up to 100
 pub const MOMENT_RANGE: &str = "moments are out of range";
 
 /// Of `CellFault::TooManyAtoms`.
-pub const TOO_MANY_ATOMS: &str = "more than 512 atoms";
+pub const TOO_MANY_ATOMS: &str = "more than 1024 atoms";
 
 /// Of `CellFault::NoAtom`.
 pub const NO_ATOM: &str = "no atom";

@@ -6,6 +6,6 @@ pub enum Version {
     /// `magcell 1`.
     One,
 
-    /// `magcell 2`, which may tell the kind of the moments.
+    /// `magcell 2`, which may tell the kind of the moments, and where numbers may be decimals.
     Two,
 }

@@ -76,16 +76,16 @@ count_is x y z (suc (suc d)) = refl
 pub atom_line-count : (ds : List ℕ) (v : Node) → are_numbers_of axial_vectors (length (atom_words ds v)) ≡ true
 atom_line-count ds v = count_is (eighths v.i) (eighths v.j) (eighths v.k) (draw_at ds v)
 
-moment-no_fault : (d : ℕ) → first_of (map word_fault (moment_words d)) ≡ None
+moment-no_fault : (d : ℕ) → first_of (map (word_fault One) (moment_words d)) ≡ None
 unfolding word_fault number_fault
 moment-no_fault zero = refl
 moment-no_fault (suc zero) = refl
 moment-no_fault (suc (suc d)) = refl
 
 -- Its words behind the name are numbers.
-pub atom_line-no_fault : (ds : List ℕ) (v : Node) → InGrid v → first_of (map word_fault (atom_words ds v)) ≡ None
+pub atom_line-no_fault : (ds : List ℕ) (v : Node) → InGrid v → first_of (map (word_fault One) (atom_words ds v)) ≡ None
 atom_line-no_fault ds v h =
-    rw (word_passes (eighths v.i) (eighths-no_fault v.i h.i), word_passes (eighths v.j) (eighths-no_fault v.j h.j), word_passes (eighths v.k) (eighths-no_fault v.k h.k)) (moment-no_fault (draw_at ds v))
+    rw (word_passes One (eighths v.i) (eighths-no_fault v.i h.i), word_passes One (eighths v.j) (eighths-no_fault v.j h.j), word_passes One (eighths v.k) (eighths-no_fault v.k h.k)) (moment-no_fault (draw_at ds v))
 
 -- ---- what it says
 

@@ -7,6 +7,7 @@ use Rattle.std.proofs.lemmas.Fmt.{decimal_digit}
 use Rattle.numbers.specs.Gcd.{gcd}
 use Rattle.numbers.specs.Fraction.{Fraction, lowest}
 use Rattle.numbers.specs.Residue.{residue}
+use Rattle.plain_text.specs.declared.number_form.NumberForm.TheVariants as forms
 use Rattle.plain_text.specs.NumberWords.{number_fault, number_value, scaled, is_same_modulo_1}
 use Rattle.plain_text.proofs.NumberWords.{reduced, is_word_byte, IsWord}
 use Rattle.generated_cell.specs.GeneratedText.{eighths}
@@ -49,13 +50,13 @@ eighths-length i h = sym (ap length (eighths-spelled i h))
 abbrev pub eighth : ℕ → Fraction
 eighth i = reduced 8 (pos i)
 
-spelled-no_fault : (i : ℕ) → i < 8 → number_fault (spelled i) ≡ None
+spelled-no_fault : (i : ℕ) → i < 8 → number_fault forms.Fraction (spelled i) ≡ None
 unfolding number_fault
-spelled-no_fault i h = each (λ (d : ℕ). number_fault (spelled d) ≡ None) refl refl refl refl refl refl refl refl i h
+spelled-no_fault i h = each (λ (d : ℕ). number_fault forms.Fraction (spelled d) ≡ None) refl refl refl refl refl refl refl refl i h
 
 -- It spells a number.
-pub eighths-no_fault : (i : ℕ) → i < 8 → number_fault (eighths i) ≡ None
-eighths-no_fault i h = ap number_fault (sym (eighths-spelled i h)) ∙ spelled-no_fault i h
+pub eighths-no_fault : (i : ℕ) → i < 8 → number_fault forms.Fraction (eighths i) ≡ None
+eighths-no_fault i h = ap (number_fault forms.Fraction) (sym (eighths-spelled i h)) ∙ spelled-no_fault i h
 
 spelled-value : (i : ℕ) → i < 8 → number_value (spelled i) ≡ eighth i
 unfolding number_value lowest gcd

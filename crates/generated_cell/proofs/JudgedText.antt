@@ -14,6 +14,7 @@ use Rattle.plain_text.specs.FirstFaults.{first_of, when}
 use Rattle.plain_text.specs.NumberWords.{number_fault, number_value, scaled, common_denominator, is_same_modulo_1}
 use Rattle.plain_text.specs.Text.{has_bad_byte}
 use Rattle.plain_text.proofs.NumberWords.{reduced}
+use Rattle.crystal.specs.declared.limits.TheConstants.{MOST_ATOMS}
 use Rattle.cell_text.specs.declared.fault.CellFault.{CellFault}
 use Rattle.cell_text.specs.declared.fault.CellFault.TheVariants.{BadLine, TooManyAtoms, PositionRange, MomentRange, BadByte, AfterEnd}
 use Rattle.cell_text.specs.declared.version.Version.TheVariants.{One}
@@ -169,11 +170,11 @@ place_fault-none ds vs v in_grid below =
 rules_none : (b a : Bool) (f g : Option CellFault) → b ≡ true → a ≡ false → f ≡ None → g ≡ None → first_of (when (not b) BadLine ∷ when a TooManyAtoms ∷ f ∷ g ∷ []) ≡ None
 rules_none b a f g eb ea ef eg = rw (eb, ea, ef, eg) refl
 
-atom_fault-none : (ds : List ℕ) (vs : List Node) (v : Node) → length vs < 512 → InGrid v → AreBelow (number_of v) vs → atom_fault (held_with ds vs) (codes "A") (atom_words ds v) ≡ None
+atom_fault-none : (ds : List ℕ) (vs : List Node) (v : Node) → length vs < 512 → InGrid v → AreBelow (number_of v) vs → atom_fault One (held_with ds vs) (codes "A") (atom_words ds v) ≡ None
 unfolding atom_fault
 atom_fault-none ds vs v fewer in_grid below =
     rules_none _ _ _ _ (atom_line-count ds v)
-    (ap (λ (n : ℕ). nat_le 512 n) (length-map vs (atom_at ds)) ∙ lt-leb 512 (length vs) fewer)
+    (ap (λ (n : ℕ). nat_le MOST_ATOMS n) (length-map vs (atom_at ds)) ∙ lt-leb MOST_ATOMS (length vs) (omega (arith, fewer)))
     (atom_line-no_fault ds v in_grid)
     (ap (place_fault (held_with ds vs)) (atom_line-read ds v in_grid) ∙ place_fault-none ds vs v in_grid below)
 
@@ -184,8 +185,8 @@ atom-fault : (ds : List ℕ) (before : List (List ℕ)) (vs : List Node) (v : No
 unfolding later_fault
 atom-fault ds before vs v fewer in_grid below held =
     ap (λ (so_far : State). judged so_far (atom_line ds v)) held
-    ∙ ap (later_fault (held_with ds vs) (atom_line ds v)) (atom_line-is ds v in_grid)
-    ∙ passed (has_bad_byte (atom_line ds v)) (atom_fault (held_with ds vs) (codes "A") (atom_words ds v)) (line-no_bad_byte (atom_line ds v) (atom_line-bytes ds v in_grid)) (atom_fault-none ds vs v fewer in_grid below)
+    ∙ ap (later_fault One (held_with ds vs) (atom_line ds v)) (atom_line-is ds v in_grid)
+    ∙ passed (has_bad_byte (atom_line ds v)) (atom_fault One (held_with ds vs) (codes "A") (atom_words ds v)) (line-no_bad_byte (atom_line ds v) (atom_line-bytes ds v in_grid)) (atom_fault-none ds vs v fewer in_grid below)
 
 atom-held : (ds : List ℕ) (before : List (List ℕ)) (vs : List Node) (v : Node) → InGrid v → state_after before ≡ behind ds vs → state_after (before ++ atom_line ds v ∷ []) ≡ behind ds (vs ++ v ∷ [])
 atom-held ds before vs v in_grid held =
@@ -237,7 +238,7 @@ end-fault : (ds : List ℕ) (before : List (List ℕ)) (vs : List Node) → 0 < 
 unfolding later_fault
 end-fault ds before vs some held =
     ap (λ (so_far : State). judged so_far end_word) held
-    ∙ ap (later_fault (held_with ds vs) end_word) end-is
+    ∙ ap (later_fault One (held_with ds vs) end_word) end-is
     ∙ passed (has_bad_byte end_word) (end_fault (held_with ds vs)) end-no_bad_byte (end-none ds vs some)
 
 end-held : (ds : List ℕ) (before : List (List ℕ)) (vs : List Node) → state_after before ≡ behind ds vs → state_after (before ++ end_word ∷ []) ≡ state_with (Some One) (whole_with ds vs)

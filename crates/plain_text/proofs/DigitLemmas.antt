@@ -1,10 +1,10 @@
--- The value of digits, and where a word is cut at its slash.
+-- The value of digits, and where a word is cut at a mark.
 use Rattle.std.proofs.Common.{◌≡◌, ℕ, zero, suc, ◌+◌, ◌-◌, ◌*◌, ◌^◌, ◌<◌, ◌≤◌, true, List, [], ◌∷◌, ◌++◌, length, get_or, take, drop, refl, ap, ◌∙◌, arith, leb, add-one}
 use Rattle.std.specs.List.{fold, list_all}
 use Rattle.std.proofs.lemmas.Bool.{eq-eqb, ne_eqb, leb-true, and_parts}
 use Rattle.std.proofs.Math.Nat.{mul-le-mul_right, pow-suc, pow-le-pow_right}
 use Rattle.plain_text.specs.Digits.{is_digit, value_of_digits}
-use Rattle.plain_text.specs.NumberWords.{before_slash, after_slash}
+use Rattle.plain_text.specs.NumberWords.{before_mark, behind_mark}
 
 -- ---- digits
 
@@ -53,17 +53,17 @@ pub fold-append : {A B : Type 0} (f : B → A → B) (b : B) (xs ys : List A) �
 fold-append f b [] ys = refl
 fold-append f b (x ∷ xs) ys = fold-append f (f b x) xs ys
 
--- ---- the slash
+-- ---- a mark
 
-pub slash-cut : (t : List ℕ) (i : ℕ) → i < length t → ((k : ℕ) → k < i → get_or t k 0 ≡ 47 → ⊥) → get_or t i 0 ≡ 47 → (before_slash t ≡ take i t) × (after_slash t ≡ drop (suc i) t)
-slash-cut [] i h free e = absurd (omega arith)
-slash-cut (b ∷ t) zero h free e = rw (eq-eqb b 47 e) (refl, refl)
-slash-cut (b ∷ t) (suc i) h free e =
-    let deeper = slash-cut t i (omega arith) (λ k lt. free (suc k) (omega arith)) e in
-    rw (ne_eqb b 47 (free 0 (omega arith))) (ap (λ (p : List ℕ). b ∷ p) deeper.0, deeper.1)
+pub mark-cut : (mark : ℕ) (other t : List ℕ) (i : ℕ) → i < length t → ((k : ℕ) → k < i → get_or t k 0 ≡ mark → ⊥) → get_or t i 0 ≡ mark → (before_mark mark t ≡ take i t) × (behind_mark mark other t ≡ drop (suc i) t)
+mark-cut mark other [] i h free e = absurd (omega arith)
+mark-cut mark other (b ∷ t) zero h free e = rw (eq-eqb b mark e) (refl, refl)
+mark-cut mark other (b ∷ t) (suc i) h free e =
+    let deeper = mark-cut mark other t i (omega arith) (λ k lt. free (suc k) (omega arith)) e in
+    rw (ne_eqb b mark (free 0 (omega arith))) (ap (λ (p : List ℕ). b ∷ p) deeper.0, deeper.1)
 
-pub slash-none : (t : List ℕ) → ((k : ℕ) → k < length t → get_or t k 0 ≡ 47 → ⊥) → (before_slash t ≡ t) × (after_slash t ≡ 49 ∷ [])
-slash-none [] free = (refl, refl)
-slash-none (b ∷ t) free =
-    let deeper = slash-none t (λ k lt. free (suc k) (omega arith)) in
-    rw (ne_eqb b 47 (free 0 (omega arith))) (ap (λ (p : List ℕ). b ∷ p) deeper.0, deeper.1)
+pub mark-none : (mark : ℕ) (other t : List ℕ) → ((k : ℕ) → k < length t → get_or t k 0 ≡ mark → ⊥) → (before_mark mark t ≡ t) × (behind_mark mark other t ≡ other)
+mark-none mark other [] free = (refl, refl)
+mark-none mark other (b ∷ t) free =
+    let deeper = mark-none mark other t (λ k lt. free (suc k) (omega arith)) in
+    rw (ne_eqb b mark (free 0 (omega arith))) (ap (λ (p : List ℕ). b ∷ p) deeper.0, deeper.1)

@@ -1,9 +1,10 @@
 -- Lines, words and numbers at a few values.
-use Rattle.std.specs.Prelude.{◌≡◌, ℕ, List, [], ◌∷◌, ◌++◌, Some, None, pos, negsuc, true, false, codes, replicate}
+use Rattle.std.specs.Prelude.{◌≡◌, ℕ, List, [], ◌∷◌, ◌++◌, map, Some, None, pos, negsuc, true, false, codes, replicate}
 use Rattle.std.proofs.Common.{refl, ap₂, lit<}
 use Rattle.std.proofs.lemmas.Fmt.{decimal_digit}
 use Rattle.numbers.specs.Gcd.{gcd, lcm}
 use Rattle.numbers.specs.Fraction.{fraction, lowest}
+use Rattle.plain_text.specs.declared.number_form.NumberForm.TheVariants.{Fraction, FractionOrDecimal}
 use Rattle.plain_text.specs.declared.fault.NumberFault.TheVariants.{BadNumber, NumberRange, ZeroDenominator}
 use Rattle.plain_text.specs.Text.{lines, words, words_between_spaces, has_bad_byte}
 use Rattle.plain_text.specs.Digits.{count_of}
@@ -60,47 +61,96 @@ minus_zero : number_value (codes "-0") ≡ fraction (pos 0) (pos 1)
 unfolding number_value lowest gcd
 minus_zero = refl
 
-two_quarters : number_fault (codes "2/4") ≡ None
+two_quarters : number_fault Fraction (codes "2/4") ≡ None
 unfolding number_fault
 two_quarters = refl
 
 -- a sign alone, a plus, a point, two slashes, and the sign of a denominator
-sign_alone : number_fault (codes "-") ≡ Some BadNumber
+sign_alone : number_fault Fraction (codes "-") ≡ Some BadNumber
 unfolding number_fault
 sign_alone = refl
 
-plus_sign : number_fault (codes "+1") ≡ Some BadNumber
+plus_sign : number_fault Fraction (codes "+1") ≡ Some BadNumber
 unfolding number_fault
 plus_sign = refl
 
-decimal_point : number_fault (codes "0.5") ≡ Some BadNumber
+decimal_point : number_fault Fraction (codes "0.5") ≡ Some BadNumber
 unfolding number_fault
 decimal_point = refl
 
-two_slashes : number_fault (codes "1/2/3") ≡ Some BadNumber
+two_slashes : number_fault Fraction (codes "1/2/3") ≡ Some BadNumber
 unfolding number_fault
 two_slashes = refl
 
-negative_denominator : number_fault (codes "1/-2") ≡ Some BadNumber
+negative_denominator : number_fault Fraction (codes "1/-2") ≡ Some BadNumber
 unfolding number_fault
 negative_denominator = refl
 
-eighteen_digits : number_fault (replicate 18 57) ≡ None
+eighteen_digits : number_fault Fraction (replicate 18 57) ≡ None
 unfolding number_fault
 eighteen_digits = refl
 
-nineteen_digits : number_fault (replicate 19 48) ≡ Some NumberRange
+nineteen_digits : number_fault Fraction (replicate 19 48) ≡ Some NumberRange
 unfolding number_fault
 nineteen_digits = refl
 
 -- a part that is too long is told before a denominator of 0
-long_over_zero : number_fault (replicate 19 49 ++ codes "/0") ≡ Some NumberRange
+long_over_zero : number_fault Fraction (replicate 19 49 ++ codes "/0") ≡ Some NumberRange
 unfolding number_fault
 long_over_zero = refl
 
-over_zero : number_fault (codes "0/00") ≡ Some ZeroDenominator
+over_zero : number_fault Fraction (codes "0/00") ≡ Some ZeroDenominator
 unfolding number_fault
 over_zero = refl
+
+-- ---- decimals
+
+-- 0.25 is 1/4
+a_quarter : number_value (codes "0.25") ≡ fraction (pos 1) (pos 4)
+unfolding number_value lowest gcd
+a_quarter = refl
+
+-- -12.50 is -25/2
+minus_twelve_and_a_half : number_value (codes "-12.50") ≡ fraction (negsuc 24) (pos 2)
+unfolding number_value lowest gcd
+minus_twelve_and_a_half = refl
+
+minus_zero_point_zero : number_value (codes "-0.0") ≡ fraction (pos 0) (pos 1)
+unfolding number_value lowest gcd
+minus_zero_point_zero = refl
+
+decimals : map (number_fault FractionOrDecimal) (codes "0.25" ∷ codes "-12.50" ∷ codes "-0.0" ∷ codes "007.0" ∷ codes "3" ∷ codes "-1/2" ∷ []) ≡ replicate 6 None
+unfolding number_fault
+decimals = refl
+
+-- a point at an end, two points, a fraction of decimals, an exponent, and a sign behind the point
+no_decimals : map (number_fault FractionOrDecimal) (codes "1." ∷ codes ".5" ∷ codes "." ∷ codes "-.5" ∷ codes "1.2.3" ∷ codes "1.5/2" ∷ codes "1/2.5" ∷ codes "1e3" ∷ codes "1.5e3" ∷ codes "1.-5" ∷ codes "+1.5" ∷ codes "1,5" ∷ []) ≡ replicate 12 (Some BadNumber)
+unfolding number_fault
+no_decimals = refl
+
+-- where fractions alone are read, these have a wrong form, however long they are
+decimals_among_fractions : map (number_fault Fraction) (codes "-12.50" ∷ codes "0.0" ∷ (codes "0." ++ replicate 30 48) ∷ []) ≡ replicate 3 (Some BadNumber)
+unfolding number_fault
+decimals_among_fractions = refl
+
+-- 18 digits, and zeros at both ends are digits
+eighteen_digits_around_the_point : map (number_fault FractionOrDecimal) ((codes "0." ++ replicate 17 57) ∷ (replicate 17 57 ++ codes ".0") ∷ (codes "-" ++ replicate 9 48 ++ codes "." ++ replicate 9 48) ∷ []) ≡ replicate 3 None
+unfolding number_fault
+eighteen_digits_around_the_point = refl
+
+-- 19 of them, 18 of which may be behind the point or in front of it
+nineteen_digits_around_the_point : map (number_fault FractionOrDecimal) ((codes "0." ++ replicate 18 57) ∷ (replicate 18 57 ++ codes ".0") ∷ (codes "-" ++ replicate 10 48 ++ codes "." ++ replicate 9 48) ∷ []) ≡ replicate 3 (Some NumberRange)
+unfolding number_fault
+nineteen_digits_around_the_point = refl
+
+-- where decimals are read, fractions are too
+long_fraction_among_decimals : number_fault FractionOrDecimal (replicate 19 49 ++ codes "/0") ≡ Some NumberRange
+unfolding number_fault
+long_fraction_among_decimals = refl
+
+over_zero_among_decimals : number_fault FractionOrDecimal (codes "0/00") ≡ Some ZeroDenominator
+unfolding number_fault
+over_zero_among_decimals = refl
 
 -- ---- fractions
 

@@ -4,4 +4,6 @@ pub mod DigitLemmas
 pub mod Signs
 pub mod Multiples
 mod PrintedPieces
+pub mod Decimals
+mod Reading
 pub mod NumberWords

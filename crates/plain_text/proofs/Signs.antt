@@ -4,8 +4,7 @@ use Rattle.std.specs.Prelude.{pos, ◌*ℤ◌, unsigned_abs}
 use Rattle.std.proofs.Math.IntN.{negsuc-*ℤ-pos}
 use Rattle.numbers.specs.Gcd.{gcd}
 use Rattle.numbers.specs.Fraction.{fraction, lowest}
-use Rattle.plain_text.specs.Digits.{value_of_digits}
-use Rattle.plain_text.specs.NumberWords.{signed, is_negative, numerator_part, denominator_part, number_value}
+use Rattle.plain_text.specs.NumberWords.{signed, is_negative, word_numerator, word_denominator, number_value}
 
 -- the sign of a product with a positive number
 pub signed-mul : (s : Bool) (a d : ℕ) → signed s (a * d) ≡ signed s a *ℤ pos d
@@ -26,7 +25,7 @@ lowest-signed false a b = refl
 lowest-signed true (suc a) b = refl
 lowest-signed true zero b = let none : 0 / gcd 0 b ≡ 0 = omega (arith, div-le_self 0 (gcd 0 b)) in rw none refl
 
--- the number of a word by its sign and its two parts
-pub number_value-parts : (w : List ℕ) → number_value w ≡ fraction (signed (is_negative w) (value_of_digits (numerator_part w) / gcd (value_of_digits (numerator_part w)) (value_of_digits (denominator_part w)))) (pos (value_of_digits (denominator_part w) / gcd (value_of_digits (numerator_part w)) (value_of_digits (denominator_part w))))
+-- the number of a word by its sign, its numerator and its denominator
+pub number_value-parts : (w : List ℕ) → number_value w ≡ fraction (signed (is_negative w) (word_numerator w / gcd (word_numerator w) (word_denominator w))) (pos (word_denominator w / gcd (word_numerator w) (word_denominator w)))
 unfolding number_value
-number_value-parts w = lowest-signed (is_negative w) (value_of_digits (numerator_part w)) (value_of_digits (denominator_part w))
+number_value-parts w = lowest-signed (is_negative w) (word_numerator w) (word_denominator w)

@@ -8,7 +8,7 @@ pub enum NumberFault {
     /// The word does not have the form of a number.
     #[error("{text}", text = BAD_NUMBER)]
     BadNumber,
-    /// The numerator or denominator has more than 18 digits.
+    /// The numerator or denominator has more than 18 digits, or a decimal more than 18 before and behind the point together.
     #[error("{text}", text = NUMBER_RANGE)]
     NumberRange,
     /// The denominator is 0.

@@ -1,15 +1,16 @@
 // Number words: reading, and what is asked of the numbers. A number in units of 1/d is an integer where d is a multiple of its
 // denominator.
-ghost use Rattle.std.specs.Prelude.{◌≡◌, ℕ, ◌<◌, ◌≤◌, ◌^◌, length, MatchOption, MatchResult, Some, None, true, false, ◌&&◌, ◌||◌, ◌*◌, ◌/◌, nat_lt, [], pos, unsigned_abs, ◌-ℤ◌};
+ghost use Rattle.std.specs.Prelude.{◌≡◌, ℕ, ◌<◌, ◌≤◌, ◌+◌, ◌^◌, ◌++◌, length, MatchOption, MatchResult, Some, None, true, false, ◌&&◌, ◌||◌, ◌*◌, ◌/◌, nat_lt, [], pos, unsigned_abs, ◌-ℤ◌};
 ghost use Rattle.ring.specs.Size.{AtMost};
 ghost use Rattle.numbers.specs.Gcd.{gcd, lcm};
 ghost use Rattle.numbers.specs.Fraction.{fraction, lowest};
 ghost use Rattle.plain_text.specs.Digits.{is_digits, value_of_digits};
-ghost use Rattle.plain_text.specs.NumberWords.{is_negative, without_sign, before_slash, after_slash, number_fault, number_value, scaled, signed, is_same_modulo_1};
+ghost use Rattle.plain_text.specs.NumberWords.{is_negative, without_sign, before_mark, behind_mark, reads_decimals, fraction_fault, decimal_fault, number_fault, number_value, scaled, signed, is_same_modulo_1};
 ghost use Rattle.plain_text.specs.Views.{fraction_of, Grown, IsMultiple};
 
 use crate::digits::{is_digits, value_of_digits};
 use crate::fault::NumberFault;
+use crate::number_form::NumberForm;
 use crate::number_word::NumberWord;
 use exact_num::{gcd, lcm_within};
 
@@ -47,17 +48,17 @@ fn without_sign(word: &[u8]) -> &[u8]
     }
 }
 
-/// What stands before and behind the first `/`; where there is none, the word and `1`.
-fn halves(word: &[u8]) -> (&[u8], &[u8])
-    ensures before { result.0.now ≡ before_slash word.now }
-    ensures after { result.1.now ≡ after_slash word.now }
+/// What stands before and behind the first of these marks; where there is none, the word and the other text.
+fn halves<'a>(word: &'a [u8], mark: u8, other: &'a [u8]) -> (&'a [u8], &'a [u8])
+    ensures before { result.0.now ≡ before_mark mark word.now }
+    ensures behind { result.1.now ≡ behind_mark mark other.now word.now }
 {
     for (i, b) in word.iter().enumerate() {
-        if *b == b'/' {
+        if *b == mark {
             return (&word[..i], &word[i + 1..]);
         }
     }
-    (word, b"1")
+    (word, other)
 }
 
 /// a / b in lowest terms.
@@ -75,13 +76,13 @@ fn lowest(negative: bool, a: u128, b: u128) -> NumberWord
     }
 }
 
-fn are_digits(over: &[u8], under: &[u8]) -> bool
-    ensures { result ≡ (is_digits over.now && is_digits under.now) }
+fn are_digits(one: &[u8], other: &[u8]) -> bool
+    ensures { result ≡ (is_digits one.now && is_digits other.now) }
 {
-    if !is_digits(over) {
+    if !is_digits(one) {
         return false;
     }
-    is_digits(under)
+    is_digits(other)
 }
 
 fn are_long(over: &[u8], under: &[u8]) -> bool
@@ -93,16 +94,10 @@ fn are_long(over: &[u8], under: &[u8]) -> bool
     under.len() > 18
 }
 
-/// The number that a word spells, in lowest terms.
-///
-/// An optional `-`, digits, and optionally `/` and digits. `BadNumber` where the word has another form, else `NumberRange`
-/// where a part has more than 18 digits, else `ZeroDenominator`.
-#[tactic(auto, unfolding(crate::specs::NumberWords::number_fault, crate::specs::NumberWords::number_value))]
-pub fn read_number(word: &[u8]) -> Result<NumberWord, NumberFault>
-    ensures { MatchResult result (λ f. (number_fault word.now ≡ None) × (fraction_of f ≡ number_value word.now)) (λ e. number_fault word.now ≡ Some e) }
+/// The number of a numerator and a denominator, in lowest terms.
+fn read_fraction(negative: bool, over: &[u8], under: &[u8]) -> Result<NumberWord, NumberFault>
+    ensures { MatchResult result (λ f. (fraction_fault over.now under.now ≡ None) × (fraction_of f ≡ lowest (signed negative (value_of_digits over.now)) (pos (value_of_digits under.now)))) (λ e. fraction_fault over.now under.now ≡ Some e) }
 {
-    let negative = is_negative(word);
-    let (over, under) = halves(without_sign(word));
     if !are_digits(over, under) {
         return Err(NumberFault::BadNumber);
     }
@@ -114,6 +109,68 @@ pub fn read_number(word: &[u8]) -> Result<NumberWord, NumberFault>
         return Err(NumberFault::ZeroDenominator);
     }
     Ok(lowest(negative, value_of_digits(over), den))
+}
+
+fn reads_decimals(form: NumberForm) -> bool
+    ensures { result ≡ reads_decimals form }
+{
+    match form {
+        NumberForm::Fraction => false,
+        NumberForm::FractionOrDecimal => true,
+    }
+}
+
+/// The number of the digits before and behind a point, at most 18 together, in lowest terms.
+fn decimal(negative: bool, before: &[u8], behind: &[u8]) -> NumberWord
+    requires before { is_digits before.now ≡ true }
+    requires behind { is_digits behind.now ≡ true }
+    requires short { length before.now + length behind.now ≤ 18 }
+    ensures { fraction_of result ≡ lowest (signed negative (value_of_digits (before.now ++ behind.now))) (pos (10 ^ length behind.now)) }
+{
+    let unit = 10u128.pow(behind.len() as u32);
+    lowest(
+        negative,
+        value_of_digits(before) * unit + value_of_digits(behind),
+        unit,
+    )
+}
+
+/// The number of the digits before and behind a point, in lowest terms, where decimals are read.
+fn read_decimal(
+    form: NumberForm,
+    negative: bool,
+    before: &[u8],
+    behind: &[u8],
+) -> Result<NumberWord, NumberFault>
+    requires before { is_digits before.now ≡ true }
+    requires behind { is_digits behind.now ≡ true }
+    ensures { MatchResult result (λ f. (decimal_fault form before.now behind.now ≡ None) × (fraction_of f ≡ lowest (signed negative (value_of_digits (before.now ++ behind.now))) (pos (10 ^ length behind.now)))) (λ e. decimal_fault form before.now behind.now ≡ Some e) }
+{
+    if !reads_decimals(form) {
+        return Err(NumberFault::BadNumber);
+    }
+    if before.len() + behind.len() > 18 {
+        return Err(NumberFault::NumberRange);
+    }
+    Ok(decimal(negative, before, behind))
+}
+
+/// The number that a word spells, in lowest terms.
+///
+/// An optional `-`, and a fraction: digits, and optionally `/` and digits; where the form says so, also a decimal: digits, `.`
+/// and digits. `BadNumber` where the word has another form; else `NumberRange` where a numerator or a denominator has more than
+/// 18 digits, or a decimal more than 18 before and behind the point together; else `ZeroDenominator`.
+pub fn read_number(form: NumberForm, word: &[u8]) -> Result<NumberWord, NumberFault>
+    ensures { MatchResult result (λ f. (number_fault form word.now ≡ None) × (fraction_of f ≡ number_value word.now)) (λ e. number_fault form word.now ≡ Some e) }
+{
+    let negative = is_negative(word);
+    let size = without_sign(word);
+    let (before, behind) = halves(size, b'.', b"");
+    if are_digits(before, behind) {
+        return read_decimal(form, negative, before, behind);
+    }
+    let (over, under) = halves(size, b'/', b"1");
+    read_fraction(negative, over, under)
 }
 
 /// The number 0, which the definition gives to the empty word too.

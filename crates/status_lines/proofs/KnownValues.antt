@@ -99,7 +99,7 @@ line_of_moment_range : line_of (CellRefused 4 MomentRange) ≡ codes "magsym: li
 unfolding digits
 line_of_moment_range = refl
 
-line_of_too_many_atoms : line_of (CellRefused 515 TooManyAtoms) ≡ codes "magsym: line 515: more than 512 atoms\n"
+line_of_too_many_atoms : line_of (CellRefused 515 TooManyAtoms) ≡ codes "magsym: line 515: more than 1024 atoms\n"
 unfolding digits
 line_of_too_many_atoms = refl
 

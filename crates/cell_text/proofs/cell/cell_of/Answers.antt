@@ -3,6 +3,7 @@ use Rattle.std.proofs.lemmas.List.{length-map}
 use Rattle.crystal_spec.specs.declared.MomentKind.{MomentKind}
 use Rattle.crystal_spec.specs.Moments.{IsOfKind}
 use Rattle.crystal_spec.specs.Crystals.{Structure}
+use Rattle.crystal.specs.declared.limits.TheConstants.{MOST_ATOMS}
 use Rattle.cell_text.specs.CellFile.{names_of, moment_of}
 use Rattle.cell_text.specs.Filling.{filled}
 use Rattle.cell_text.specs.Views.{atom_view}
@@ -61,7 +62,7 @@ add_atom-requires-clause-fewer_names c =
     let atoms = c.args.atoms.now in
     let i = c.loop-atom.atom-index in
     let at = rest_at atoms i c.atom-item.result c.loop-atom-test.true c.atom-item.is in
-    let few : length (map atom_view atoms) ≤ 512 = omega (arith, length-map atoms atom_view, c.requires.few) in
+    let few : length (map atom_view atoms) ≤ MOST_ATOMS = omega (arith, length-map atoms atom_view, c.requires.few) in
     fewer_names (kind_or_default c.args.kind.now) (metric_view c.args.metric.now) c.args.n c.args.k (map atom_view atoms) (map atom_view (take (suc i) atoms)) (atom_view c.atom-item.result) (map atom_view (drop (suc (suc i)) atoms)) c.loop-atom.cell (split_at atoms (suc i) c.atom-item.result at.0 at.1) few c.loop-atom.invariant.cell
 
 pub add_atom-requires-clause-fewer : goal.add_atom-requires-clause-fewer
@@ -69,7 +70,7 @@ add_atom-requires-clause-fewer c =
     let atoms = c.args.atoms.now in
     let i = c.loop-atom.atom-index in
     let at = rest_at atoms i c.atom-item.result c.loop-atom-test.true c.atom-item.is in
-    let few : length (map atom_view atoms) ≤ 512 = omega (arith, length-map atoms atom_view, c.requires.few) in
+    let few : length (map atom_view atoms) ≤ MOST_ATOMS = omega (arith, length-map atoms atom_view, c.requires.few) in
     fewer_sites (kind_or_default c.args.kind.now) (metric_view c.args.metric.now) c.args.n c.args.k (map atom_view atoms) (map atom_view (take (suc i) atoms)) (atom_view c.atom-item.result) (map atom_view (drop (suc (suc i)) atoms)) c.loop-atom.cell (split_at atoms (suc i) c.atom-item.result at.0 at.1) few c.loop-atom.invariant.cell
 
 pub loop-atom-preserved : goal.loop-atom-preserved

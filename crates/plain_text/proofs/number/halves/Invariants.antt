@@ -2,4 +2,4 @@ use Rattle.std.proofs.Common.{◌≡◌, ◌<◌, ℕ, get_or}
 use Rattle.plain_text.proofs.number.halves.Given as goal
 
 abbrev pub invariant-loop-i : goal.invariant-loop-i
-invariant-loop-i l = (k : ℕ) → k < l.i → get_or l.word k 0 ≡ 47 → ⊥
+invariant-loop-i l = (k : ℕ) → k < l.i → get_or l.word k 0 ≡ l.mark → ⊥
