@@ -5,6 +5,7 @@
 // `first_wrong` goes through the rows, and what a run owns stands in `holds_over` alone. It judges what every run shows: the
 // exit status, both outputs, how many bytes a cut output holds, and that words outside the rule leave the input.
 mod dataset;
+mod decimals;
 mod faults;
 mod hall;
 mod identify;
