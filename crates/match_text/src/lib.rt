@@ -6,4 +6,4 @@
 
 mod matches;
 
-pub use matches::{has_match, match_report};
+pub use matches::{has_match, match_report, push_map};

@@ -43,8 +43,11 @@ fn push_name(alloc: Global, out: &mut Bytes, number: usize, name: &[u8]) -> Resu
     out.append(name)
 }
 
-/// Adds the entries of Q and the origin shift of a map, and LF.
-fn push_map(alloc: Global, out: &mut Bytes, map: &Map) -> Result<(), AllocError>
+/// Adds the nine entries of Q row by row and the origin shift of a map, a space before each number, and LF.
+///
+/// The origin shift is in units of the axes, in lowest terms. Refuses for want of memory alone; what is added then is left
+/// open.
+pub fn push_map(alloc: Global, out: &mut Bytes, map: &Map) -> Result<(), AllocError>
     ensures { OnOk result (out.new ≡ out.old ++ (entries_text map.now.turn ++ coordinates_text map.now.origin ++ 10 ∷ [])) }
 {
     push_entries(alloc, out, &map.turn)?;
