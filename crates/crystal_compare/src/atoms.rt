@@ -1,4 +1,4 @@
-// Two atoms: whether the one is the image of the other, but for its position.
+// Two atoms: whether they are alike, and whether the one is the image of the other, but for its position.
 
 ghost use Rattle.std.specs.Prelude.{◌≡◌, ◌↔◌, ◌<◌, ◌≤◌, ◌*◌, ◌^◌, length, pos, IsTrue};
 ghost use Rattle.ring.specs.Size.{AtMost};
@@ -61,6 +61,13 @@ pub(crate) fn have_one_name(one: &Cell, species: u16, other: &Cell, another: u16
     ensures { IsTrue result ↔ HaveOneName one.now other.now species another }
 {
     is_same(one.name(species), other.name(another))
+}
+
+/// Whether two atoms of one cell are of one species and have one moment.
+pub(crate) fn is_alike(a: &Atom, b: &Atom) -> bool
+    ensures { IsTrue result ↔ ((a.now.species ≡ b.now.species) × (a.now.moment ≡ b.now.moment)) }
+{
+    a.species == b.species && a.moment == b.moment
 }
 
 /// Whether the moment of the second atom is the image of that of the first, under the matrix by which a map acts on moments.

@@ -12,7 +12,7 @@ ghost use Rattle.lattice_iso.specs.Columns.{of_columns};
 ghost use Rattle.crystal_compare.specs.Steps.{operation_of};
 ghost use Rattle.crystal_compare.specs.Search.{steps, AreMetricsOf, IsFolded, IsIsometry, IsMapAs, IsMapOnto, IsMapBy, IsMapOfTwo, IsMapOfOne, IsMapOfColumns, IsSmallMap, IsFoldedOnto};
 
-use crate::atoms::{column, have_one_name, multiple, whole};
+use crate::atoms::{column, have_one_name, is_alike, multiple, whole};
 use crate::columns::{
     CANDIDATES, candidate, is_first_column, is_second_column, is_third_column, of_columns,
 };
@@ -54,20 +54,22 @@ fn translation_onto(w: &Mat3<Int>, from: [u32; 3], onto: [u32; 3], n: u32, m: u3
     }
 }
 
-/// Puts the map into the list, where it carries the one crystal onto the other.
+/// Puts the map into the list, where it carries the one crystal onto the other. The given atom is tried first.
 fn add_map(
     one: &Cell,
     other: &Places,
     map: &WholeMap,
+    from: &Atom,
     found: &mut WholeMaps,
 ) -> Result<(), AllocError>
     requires small { EntriesAtMost 1 map.now.w }
     requires isometry { IsIsometry one.now other.now map.now.w }
     requires kind { other.now.kind ≡ one.now.kind }
     requires within { IsWithinCell (steps one.now other.now) map.now.shift }
+    requires of_cell { IsMember (site_of from.now) one.now.sites }
     ensures members { OnOk result ((o : Operation) → IsMember o found.new ↔ (IsMapAs one.now other.now (operation_of map.now) o ⊎ IsMember o found.old)) }
 {
-    if is_onto(one, other, map) {
+    if is_onto(one, other, map, from) {
         found.insert(*map)?;
     }
     Ok(())
@@ -96,15 +98,16 @@ fn add_onto(
     requires small { EntriesAtMost 1 w.now }
     requires isometry { IsIsometry one.now other.now w.now }
     requires kind { other.now.kind ≡ one.now.kind }
+    requires of_cell { IsMember (site_of from.now) one.now.sites }
     ensures members { OnOk result ((o : Operation) → IsMember o found.new ↔ (IsMapOnto one.now other.now w.now (site_of from.now) (site_of onto.now) o ⊎ IsMember o found.old)) }
 {
     let _one = one.count();
     let _other = other.cell().count();
     let shift = translation_onto(w, from.place, onto.place, one.n(), other.cell().n());
     let same = map_of(w, &shift, Sign::Same);
-    add_map(one, other, &same, found)?;
+    add_map(one, other, &same, from, found)?;
     let reversed = map_of(w, &shift, Sign::Reversed);
-    add_map(one, other, &reversed, found)?;
+    add_map(one, other, &reversed, from, found)?;
     Ok(())
 }
 
@@ -134,26 +137,26 @@ fn add_by(
     Ok(())
 }
 
-/// How many atoms of the cell are of this species.
-fn count_of(cell: &Cell, species: u16) -> usize {
+/// How many atoms of the cell are of the species of this atom and have its moment.
+fn count_of(cell: &Cell, atom: &Atom) -> usize {
     let mut count = 0;
     for i in 0..cell.count() {
-        if cell.atom(i).species == species {
+        if is_alike(cell.atom(i), atom) {
             count += 1;
         }
     }
     count
 }
 
-/// The number of the first atom of a rarest species.
+/// The number of the first atom of a rarest species and moment.
 fn rarest(cell: &Cell) -> usize
     ensures { result < length cell.now.sites }
 {
     let atoms = cell.count();
-    let mut least = count_of(cell, cell.atom(0).species);
+    let mut least = count_of(cell, cell.atom(0));
     let mut rarest = 0;
     for i in 1..atoms {
-        let count = count_of(cell, cell.atom(i).species);
+        let count = count_of(cell, cell.atom(i));
         if count < least {
             least = count;
             rarest = i;
@@ -238,7 +241,8 @@ fn add_of_one(
 
 /// All maps of matrices of entries -1, 0 and 1, where the moments are of one kind.
 ///
-/// A column is tried where its length and its products with the columns before it are those of the axes.
+/// A column is tried where its length and its products with the columns before it are those of the axes. An atom of a rarest
+/// species and moment is tried first.
 fn all_of_kind(alloc: Global, one: &Cell, other: &Places) -> Result<WholeMaps, AllocError>
     requires kind { other.now.kind ≡ one.now.kind }
     ensures { IfOk result (λ list. (o : Operation) → IsMember o list ↔ IsMapOfColumns one.now other.now o) }
