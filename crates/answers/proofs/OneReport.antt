@@ -29,12 +29,14 @@ use Rattle.operation_text.specs.Pages.{page_text}
 use Rattle.report_text.specs.PrimitiveText.{cell_in_basis_text}
 use Rattle.report_text.specs.DatasetText.{dataset_text}
 use Rattle.report_text.specs.OrbitText.{orbit_text}
-use Rattle.command_words.specs.declared.command.Command.TheVariants.{Symmetry, Primitive, Dataset, Orbits, Hall, Identify, Selfrun}
-use Rattle.report_basis.specs.declared.Kept.TheVariants.{NoBase, Back}
+use Rattle.moments_text.specs.MomentsText.{moments_text}
+use Rattle.command_words.specs.declared.command.Command.TheVariants.{Symmetry, Primitive, Dataset, Orbits, Hall, Identify, Standard, Compare, Moments, Fill, Selfrun}
+use Rattle.report_basis.specs.declared.Kept.TheVariants.{NoBase, Back, Two}
 use Rattle.answers.specs.SymmetryReports.{SymmetryReport}
 use Rattle.answers.specs.PrimitiveReports.{IsPrimitiveReport}
 use Rattle.answers.specs.DatasetReports.{IsDatasetReport}
 use Rattle.answers.specs.OrbitReports.{IsOrbitReport}
+use Rattle.answers.specs.MomentReports.{IsMomentsReport}
 use Rattle.answers.specs.Reports.{HasOneReport}
 
 -- ---- lists of operations
@@ -141,16 +143,35 @@ orbits_report_once c q bytes others h k =
     let orbits = orbits_once c q b h.operations h.orbits k.orbits h.of_each_atom k.of_each_atom h.are_orbits (subst (λ (us : List Operation). HaveOrbits c q b us k.orbits) (sym same) k.are_orbits) in
     h.lines ∙ ap (orbit_text c.names c.sites) orbits ∙ sym k.lines
 
+moments_once : (c : Structure) (q : Matrix) (bytes others : List ℕ) → IsMomentsReport c q bytes → IsMomentsReport c q others → bytes ≡ others
+moments_once c q bytes others h k =
+    let b = cell_in_basis c q in
+    let one = h.are_orbits in
+    let other = k.are_orbits in
+    let same = all_once b one.operations other.operations one.all other.all in
+    let orbits = orbits_once c q b one.operations h.orbits k.orbits one.of_each_atom other.of_each_atom one.are_orbits (subst (λ (us : List Operation). HaveOrbits c q b us k.orbits) (sym same) other.are_orbits) in
+    h.lines ∙ ap (moments_text q c) orbits ∙ sym k.lines
+
 -- by cases on the command and the basis
 pub one_report : (c : Structure) → IsCell c → HasOneReport c
 one_report c cell (Symmetry time skip most) NoBase bytes others h k = symmetry_once c time skip most bytes others h k
 one_report c cell (Symmetry time skip most) (Back q) bytes others h k = absurd h
+one_report c cell (Symmetry time skip most) (Two q q') bytes others h k = absurd h
 one_report c cell Primitive NoBase bytes others h k = absurd h
 one_report c cell Primitive (Back q) bytes others h k = primitive_once c q bytes others h k
+one_report c cell Primitive (Two q q') bytes others h k = absurd h
 one_report c cell Dataset NoBase bytes others h k = absurd h
 one_report c cell Dataset (Back q) bytes others h k = dataset_once c q bytes others cell h k
+one_report c cell Dataset (Two q q') bytes others h k = absurd h
 one_report c cell Orbits NoBase bytes others h k = absurd h
 one_report c cell Orbits (Back q) bytes others h k = orbits_report_once c q bytes others h k
+one_report c cell Orbits (Two q q') bytes others h k = absurd h
 one_report c cell Hall kept bytes others h k = absurd h
 one_report c cell Identify kept bytes others h k = absurd h
+one_report c cell Standard kept bytes others h k = absurd h
+one_report c cell Compare kept bytes others h k = absurd h
+one_report c cell Moments NoBase bytes others h k = absurd h
+one_report c cell Moments (Back q) bytes others h k = moments_once c q bytes others h k
+one_report c cell Moments (Two q q') bytes others h k = absurd h
+one_report c cell (Fill f) kept bytes others h k = absurd h
 one_report c cell (Selfrun seed) kept bytes others h k = absurd h

@@ -13,7 +13,7 @@ use Rattle.hall_text.specs.Products.{IsGroupOf, TooMany}
 use Rattle.hall_text.specs.declared.fault.RowFault.{RowFault}
 use Rattle.hall_text.specs.declared.fault.RowFault.TheVariants as faults
 use Rattle.report_basis.specs.declared.Kept.{Kept}
-use Rattle.report_basis.specs.declared.Kept.TheVariants.{NoBase, Back}
+use Rattle.report_basis.specs.declared.Kept.TheVariants.{NoBase, Back, Two}
 
 -- The word spells a symbol; the operations are exactly the products of the symbol's operations modulo whole translations, in
 -- units of 1/12, strictly increasing; and the bytes are their lines.
@@ -29,6 +29,7 @@ pub record IsGroupText (word bytes : List ℕ) : Type 0 where
 abbrev pub IsHallReport : List ℕ → Kept → List ℕ → Type 0
 IsHallReport word NoBase bytes = IsGroupText word bytes
 IsHallReport word (Back q) bytes = ⊥
+IsHallReport word (Two q q') bytes = ⊥
 
 -- the word spells a symbol, whose products have 49 different matrices
 pub record HasTooManyMatrices (word : List ℕ) : Type 0 where

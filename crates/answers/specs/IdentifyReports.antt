@@ -22,7 +22,7 @@ use Rattle.match_spec.specs.FirstMap.{IsFirstMap, HasNoMap}
 use Rattle.group_match.specs.declared.map.Map.{Map}
 use Rattle.match_text.specs.MatchText.{has_match, matches_text}
 use Rattle.report_basis.specs.declared.Kept.{Kept}
-use Rattle.report_basis.specs.declared.Kept.TheVariants.{NoBase, Back}
+use Rattle.report_basis.specs.declared.Kept.TheVariants.{NoBase, Back, Two}
 
 -- the first map of the class, with the least balanced origin, that carries the group of the symbol onto this one in units of 1/n
 pub record IsMapOf (n : ℕ) (os : List Operation) (s : HallSymbol) (m : Map) : Type 0 where
@@ -63,3 +63,4 @@ pub record IsIdentification (c : Structure) (rows : List Row) (q : Matrix) (matc
 abbrev pub IsIdentifyReport : Structure → List Row → Kept → Bool → List ℕ → Type 0
 IsIdentifyReport c rows NoBase matched bytes = ⊥
 IsIdentifyReport c rows (Back q) matched bytes = IsIdentification c rows q matched bytes
+IsIdentifyReport c rows (Two q q') matched bytes = ⊥

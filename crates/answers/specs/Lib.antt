@@ -1,11 +1,17 @@
 pub mod Answers
+pub mod CompareReports
 pub mod DatasetReports
+pub mod FillReports
 pub mod Findings
 pub mod HallReports
 pub mod IdentifyReports
+pub mod Matchings
+pub mod MomentReports
 pub mod OrbitReports
 pub mod PrimitiveReports
 pub mod Reports
 pub mod Spelled
+pub mod StandardReports
 pub mod SummaryReports
 pub mod SymmetryReports
+pub mod TableReports

@@ -14,7 +14,7 @@ use Rattle.cell_text.specs.CellFile.{Spells}
 use Rattle.generated_cell.specs.GeneratedText.{generated_text}
 use Rattle.summary_text.specs.SummaryText.{summary_text}
 use Rattle.report_basis.specs.declared.Kept.{Kept}
-use Rattle.report_basis.specs.declared.Kept.TheVariants.{NoBase, Back}
+use Rattle.report_basis.specs.declared.Kept.TheVariants.{NoBase, Back, Two}
 
 -- Q takes coordinates to those in a Niggli-reduced basis of all translations of the crystal. The bytes are the lines of the
 -- number of atoms; of the index, which is det Q and how many pure translations the crystal has; of the number of symmetry
@@ -42,3 +42,4 @@ pub record IsSeedSummary (seed : ℕ) (q : Matrix) (bytes : List ℕ) : Type 0 w
 abbrev pub IsSeedReport : ℕ → Kept → List ℕ → Type 0
 IsSeedReport seed NoBase bytes = ⊥
 IsSeedReport seed (Back q) bytes = IsSeedSummary seed q bytes
+IsSeedReport seed (Two q q') bytes = ⊥

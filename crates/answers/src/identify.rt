@@ -1,13 +1,15 @@
 // `identify`: the first maps of a table's rows onto the group of a crystal.
 
-ghost use Rattle.std.specs.Prelude.{◌≤◌, ◌^◌, true, map, IfOk};
+ghost use Rattle.std.specs.Prelude.{◌≤◌, ◌^◌, true, map, IfOk, IfSome};
 ghost use Rattle.crystal_spec.specs.Crystals.{Structure};
 ghost use Rattle.op_group.specs.Groups.{IsGroupModulo};
 ghost use Rattle.mag_type.specs.MagneticTypes.{HasOnlyZeroTranslation};
 ghost use Rattle.group_match.specs.Tasks.{HasEntriesAtMost};
-ghost use Rattle.answers.specs.Answers.{IsIdentifyAnswer};
+ghost use Rattle.command_words.specs.declared.command.Command.TheVariants.{Identify};
+ghost use Rattle.answers.specs.Answers.{IsTableAnswer};
 ghost use Rattle.answers.specs.Findings.{IsFound};
 ghost use Rattle.answers.specs.IdentifyReports.{IsRowMap, AreRowMaps};
+ghost use Rattle.answers.specs.Matchings.{IsMapOfGroup};
 ghost use Rattle.answers.specs.Spelled.{IsSpelled};
 
 use crate::answer::{Answer, Report};
@@ -23,12 +25,17 @@ use std::sync::ledger::Ledger;
 /// The first map of a symbol's group onto the found one, or that there is none.
 ///
 /// A symbol of a table that was read has at most 48 different matrices, so it refuses for want of memory alone.
-fn map_of(alloc: Global, symbol: &Symbol, found: &OpList) -> Result<Option<Map>, AllocError>
+pub(crate) fn map_of(
+    alloc: Global,
+    symbol: &Symbol,
+    found: &OpList,
+) -> Result<Option<Map>, AllocError>
     requires group { IsGroupModulo found.now.n found.now.operations }
     requires primitive { HasOnlyZeroTranslation found.now.operations }
     requires entries { HasEntriesAtMost 150000000 found.now.operations }
     requires n { found.now.n ≤ 10 ^ 6 }
-    ensures { IfOk result (λ m. IsRowMap found.now.n found.now.operations symbol.now m) }
+    ensures value { IfOk result (λ m. IsRowMap found.now.n found.now.operations symbol.now m) }
+    ensures group { IfOk result (λ m. IfSome m (IsMapOfGroup found.now.n found.now.operations symbol.now)) }
 {
     let Ok(list) = expand(alloc, symbol) else {
         return Err(AllocError);
@@ -59,18 +66,16 @@ fn answer_of_maps(
     maps: &Maps,
 ) -> Result<Answer, AllocError>
     requires { AreRowMaps found.now.group.n found.now.group.operations (map (λ row. row.symbol) table.now) maps.now }
-    ensures { IfOk result (λ answer. (c : Structure) → IsFound c true found.now.made found.now.group → IsIdentifyAnswer c table.now answer) }
+    ensures { IfOk result (λ answer. (c : Structure) → IsFound c true found.now.made found.now.group → IsTableAnswer Identify c table.now answer) }
 {
     let text = match_report(alloc, found.made.back(), table, maps)?;
-    let report = Report {
+    if !has_match(maps) {
+        return Ok(Answer::NoMatch(*found.made.back(), text));
+    }
+    Ok(Answer::Report(Report {
         kept: kept(&found.made),
         text,
-    };
-    if has_match(maps) {
-        Ok(Answer::Report(report))
-    } else {
-        Ok(Answer::NoMatch(report))
-    }
+    }))
 }
 
 /// What `identify` answers on a cell that was read and a table of symbols: for each row the first map that carries the group
@@ -79,14 +84,14 @@ fn answer_of_maps(
 /// That cell is in a Niggli-reduced basis, of which the report speaks, and its Q takes coordinates of the cell that was read to
 /// those there; a map takes coordinates in the basis of the symbol to these. The answer is `NoMatch` where no row has a map, and
 /// else `Report`. Refuses for want of memory alone.
-pub fn answer_identify<L: Ledger>(
+pub(crate) fn answer_identify<L: Ledger>(
     alloc: Global,
     cell: &Cell,
     table: &Table,
     steps: &mut Steps<L>,
 ) -> Result<Answer, AllocError>
     requires { IsSpelled cell.now }
-    ensures { IfOk result (λ answer. IsIdentifyAnswer cell.now table.now answer) }
+    ensures { IfOk result (λ answer. IsTableAnswer Identify cell.now table.now answer) }
 {
     let found = found_of(alloc, cell, true, steps)?;
     let _form = found.made.cell().count();

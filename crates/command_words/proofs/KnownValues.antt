@@ -1,8 +1,8 @@
 -- What some words ask for.
 use Rattle.std.proofs.Common.{◌≡◌, ◌∷◌, [], refl}
-use Rattle.std.specs.Prelude.{codes, true, false, Some, None}
+use Rattle.std.specs.Prelude.{codes, true, false, Some, None, pos, neg_ℤ}
 use Rattle.std.specs.declared.result.Result.TheVariants.{Ok, Err}
-use Rattle.command_words.specs.declared.command.Command.TheVariants.{Symmetry, Primitive, Dataset, Orbits, Hall, Identify, Selfrun}
+use Rattle.command_words.specs.declared.command.Command.TheVariants.{Symmetry, Primitive, Dataset, Orbits, Hall, Identify, Standard, Compare, Moments, Fill, Selfrun}
 use Rattle.command_words.specs.declared.command.UsageFault.TheVariants.{NoCommand, UnknownCommand, UnknownOption, RepeatedOption, MissingValue, BadValue, MissingWord, ExtraWord}
 use Rattle.command_words.specs.Commands.{command, argument}
 
@@ -50,6 +50,22 @@ empty_symbol = refl
 
 table : command (codes "identify" ∷ codes "groups.table" ∷ []) ≡ Ok Identify
 table = refl
+
+standard_table : command (codes "standard" ∷ codes "groups.table" ∷ []) ≡ Ok Standard
+standard_table = refl
+
+other_cell : command (codes "compare" ∷ codes "other.cell" ∷ []) ≡ Ok Compare
+other_cell = refl
+
+moments_alone : command (codes "moments" ∷ []) ≡ Ok Moments
+moments_alone = refl
+
+moment_of_an_atom : command (codes "fill" ∷ codes "1" ∷ codes "0" ∷ codes "-3" ∷ codes "999999999" ∷ []) ≡ Ok (Fill (record { atom = 1; a = pos 0; b = neg_ℤ (pos 3); c = pos 999999999 }))
+moment_of_an_atom = refl
+
+-- the cell tells whether there is such an atom
+atom_zero : command (codes "fill" ∷ codes "0" ∷ codes "-0" ∷ codes "00" ∷ codes "-01" ∷ []) ≡ Ok (Fill (record { atom = 0; a = pos 0; b = pos 0; c = neg_ℤ (pos 1) }))
+atom_zero = refl
 
 seed : command (codes "selfrun" ∷ codes "000000001" ∷ []) ≡ Ok (Selfrun 1)
 seed = refl
@@ -133,3 +149,31 @@ seed_of_ten_digits = refl
 -- the word too many is told before the bad seed
 bad_seed_and_more : command (codes "selfrun" ∷ codes "x" ∷ codes "1" ∷ []) ≡ Err ExtraWord
 bad_seed_and_more = refl
+
+no_table_of_standard : command (codes "standard" ∷ []) ≡ Err MissingWord
+no_table_of_standard = refl
+
+two_other_cells : command (codes "compare" ∷ codes "a" ∷ codes "b" ∷ []) ≡ Err ExtraWord
+two_other_cells = refl
+
+word_after_moments : command (codes "moments" ∷ codes "1" ∷ []) ≡ Err ExtraWord
+word_after_moments = refl
+
+-- the count of words is judged before their values
+no_third_component : command (codes "fill" ∷ codes "x" ∷ codes "0" ∷ codes "0" ∷ []) ≡ Err MissingWord
+no_third_component = refl
+
+four_components : command (codes "fill" ∷ codes "1" ∷ codes "0" ∷ codes "0" ∷ codes "0" ∷ codes "x" ∷ []) ≡ Err ExtraWord
+four_components = refl
+
+negative_atom : command (codes "fill" ∷ codes "-1" ∷ codes "0" ∷ codes "0" ∷ codes "0" ∷ []) ≡ Err BadValue
+negative_atom = refl
+
+minus_alone : command (codes "fill" ∷ codes "1" ∷ codes "0" ∷ codes "-" ∷ codes "0" ∷ []) ≡ Err BadValue
+minus_alone = refl
+
+fraction_as_component : command (codes "fill" ∷ codes "1" ∷ codes "0" ∷ codes "0" ∷ codes "1/2" ∷ []) ≡ Err BadValue
+fraction_as_component = refl
+
+ten_digits_of_a_component : command (codes "fill" ∷ codes "1" ∷ codes "-1234567890" ∷ codes "0" ∷ codes "0" ∷ []) ≡ Err BadValue
+ten_digits_of_a_component = refl

@@ -1,3 +1,5 @@
+pub mod FillingLemmas
 mod KnownValues
 pub mod OptionLemmas
 pub mod OptionOrder
+pub mod SmallMoments

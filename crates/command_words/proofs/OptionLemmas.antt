@@ -8,7 +8,7 @@ use Rattle.command_words.specs.declared.command.UsageFault.{UsageFault}
 use Rattle.command_words.specs.Commands.{with_word, options}
 
 -- what is left from a word on is this word and what is left behind it
-drop_here : (words : List (List ℕ)) (i : ℕ) (word : List ℕ) → slice_get words i ≡ Some word → drop i words ≡ word ∷ drop (i + 1) words
+pub drop_here : (words : List (List ℕ)) (i : ℕ) (word : List ℕ) → slice_get words i ≡ Some word → drop i words ≡ word ∷ drop (i + 1) words
 drop_here [] i word e = absurd cc
 drop_here (w ∷ ws) zero word e = cc
 drop_here (w ∷ ws) (suc i) word e = rw (add-one (suc i)) (drop_here ws i word e ∙ rw (add-one i) refl)

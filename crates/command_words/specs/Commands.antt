@@ -10,14 +10,18 @@
 --   one_more wanted words   what is wanted, where one word is left
 --   seeded word          the run from a seed
 --   from_seed words      the run from the seed that is the one word left
+--   component_of word    a component of a moment: 1 to 9 digits, with a minus before them or none
+--   filling words        the moment for an atom that the first four words give
+--   filled words         the same, where four words are left
 --   command_name word    the command that a word names
 --   behind_name name words   what the words behind the name ask for
 --   command words        the command, or the first fault from the left
 --   ReadsCell command    the command reads a cell from the input
---   ReadsCellAlone command   it does, and reads nothing else
+--   ReadsCellAlone command   it does, and reads nothing else; `fill`, which has refusals of its own, aside
+--   ReadsTable command   it reads a cell and a table
 -- The word behind `--skip` or `--take` is its value, whatever it is. An option that was given before is told as such also
 -- where it has no value.
-use Rattle.std.specs.Prelude.{ℕ, Bool, true, false, List, [], ◌∷◌, drop, nat_eq, if◌then◌else◌, codes}
+use Rattle.std.specs.Prelude.{ℕ, ℤ, pos, neg_ℤ, Bool, true, false, List, [], ◌∷◌, drop, nat_eq, if◌then◌else◌, codes}
 use Rattle.std.specs.Cmp.Lexicographic.{pointwise}
 use Rattle.std.specs.declared.option.Option.{Option}
 use Rattle.std.specs.declared.option.Option.TheVariants.{Some, None}
@@ -27,7 +31,8 @@ use Rattle.plain_text.specs.Digits.{is_count, value_of_digits}
 use Rattle.command_words.specs.declared.options.Awaited.TheVariants.{AnyOption, ValueOfSkip, ValueOfTake}
 use Rattle.command_words.specs.declared.options.Options.{Options}
 use Rattle.command_words.specs.declared.command.Command.{Command}
-use Rattle.command_words.specs.declared.command.Command.TheVariants.{Symmetry, Primitive, Dataset, Orbits, Hall, Identify, Selfrun}
+use Rattle.command_words.specs.declared.filling.Filling.{Filling}
+use Rattle.command_words.specs.declared.command.Command.TheVariants.{Symmetry, Primitive, Dataset, Orbits, Hall, Identify, Standard, Compare, Moments, Fill, Selfrun}
 use Rattle.command_words.specs.declared.command.CommandName.{CommandName}
 use Rattle.command_words.specs.declared.command.UsageFault.{UsageFault}
 use Rattle.command_words.specs.declared.command.UsageFault.TheVariants.{NoCommand, UnknownCommand, UnknownOption, RepeatedOption, MissingValue, BadValue, MissingWord, ExtraWord}
@@ -117,6 +122,38 @@ seeded word = elim (count_of word) [ Ok seed ↦ Ok (Selfrun seed) | Err fault �
 abbrev pub from_seed : List (List ℕ) → Result Command UsageFault
 from_seed words = one_more (seeded (first_word words)) words
 
+-- the value of the digits, less than 0 behind a minus
+abbrev pub component_of : List ℕ → Result ℤ UsageFault
+component_of [] = Err BadValue
+component_of (b ∷ later) =
+    if nat_eq b 45 then elim (count_of later) [ Ok size ↦ Ok (neg_ℤ (pos size)) | Err fault ↦ Err fault ]
+    else elim (count_of (b ∷ later)) [ Ok size ↦ Ok (pos size) | Err fault ↦ Err fault ]
+
+-- the number of an atom, and the three components
+abbrev pub filling : List (List ℕ) → Result Command UsageFault
+filling words = elim (count_of (first_word words)) [
+  | Ok atom ↦ elim (component_of (first_word (drop 1 words))) [
+    | Ok a ↦ elim (component_of (first_word (drop 2 words))) [
+      | Ok b ↦ elim (component_of (first_word (drop 3 words))) [
+        | Ok c ↦ Ok (Fill (record { atom = atom; a = a; b = b; c = c }))
+        | Err fault ↦ Err fault
+      ]
+      | Err fault ↦ Err fault
+    ]
+    | Err fault ↦ Err fault
+  ]
+  | Err fault ↦ Err fault
+]
+
+-- four words are left: a missing one and those too many are told before what is wrong with one
+abbrev pub filled : List (List ℕ) → Result Command UsageFault
+filled [] = Err MissingWord
+filled (i ∷ []) = Err MissingWord
+filled (i ∷ a ∷ []) = Err MissingWord
+filled (i ∷ a ∷ b ∷ []) = Err MissingWord
+filled (i ∷ a ∷ b ∷ c ∷ []) = filling (i ∷ a ∷ b ∷ c ∷ [])
+filled (i ∷ a ∷ b ∷ c ∷ other ∷ later) = Err ExtraWord
+
 -- the command that a word names
 abbrev pub command_name : List ℕ → Option CommandName
 command_name word =
@@ -126,6 +163,10 @@ command_name word =
     else if same_word word (codes "orbits") then Some CommandName.Orbits
     else if same_word word (codes "hall") then Some CommandName.Hall
     else if same_word word (codes "identify") then Some CommandName.Identify
+    else if same_word word (codes "standard") then Some CommandName.Standard
+    else if same_word word (codes "compare") then Some CommandName.Compare
+    else if same_word word (codes "moments") then Some CommandName.Moments
+    else if same_word word (codes "fill") then Some CommandName.Fill
     else if same_word word (codes "selfrun") then Some CommandName.Selfrun
     else None
 
@@ -137,6 +178,10 @@ behind_name CommandName.Dataset words = alone Dataset words
 behind_name CommandName.Orbits words = alone Orbits words
 behind_name CommandName.Hall words = one_more (Ok Hall) words
 behind_name CommandName.Identify words = one_more (Ok Identify) words
+behind_name CommandName.Standard words = one_more (Ok Standard) words
+behind_name CommandName.Compare words = one_more (Ok Compare) words
+behind_name CommandName.Moments words = alone Moments words
+behind_name CommandName.Fill words = filled words
 behind_name CommandName.Selfrun words = from_seed words
 
 -- the first word is the name
@@ -152,9 +197,13 @@ ReadsCell Dataset = Unit {0}
 ReadsCell Orbits = Unit {0}
 ReadsCell Hall = ⊥
 ReadsCell Identify = Unit {0}
+ReadsCell Standard = Unit {0}
+ReadsCell Compare = Unit {0}
+ReadsCell Moments = Unit {0}
+ReadsCell (Fill f) = Unit {0}
 ReadsCell (Selfrun seed) = ⊥
 
--- they read a cell, and no table
+-- they read a cell, and no file
 abbrev pub ReadsCellAlone : Command → Type 0
 ReadsCellAlone (Symmetry time skip take) = Unit {0}
 ReadsCellAlone Primitive = Unit {0}
@@ -162,4 +211,22 @@ ReadsCellAlone Dataset = Unit {0}
 ReadsCellAlone Orbits = Unit {0}
 ReadsCellAlone Hall = ⊥
 ReadsCellAlone Identify = ⊥
+ReadsCellAlone Standard = ⊥
+ReadsCellAlone Compare = ⊥
+ReadsCellAlone Moments = Unit {0}
+ReadsCellAlone (Fill f) = ⊥
 ReadsCellAlone (Selfrun seed) = ⊥
+
+-- they read a cell and a table
+abbrev pub ReadsTable : Command → Type 0
+ReadsTable (Symmetry time skip take) = ⊥
+ReadsTable Primitive = ⊥
+ReadsTable Dataset = ⊥
+ReadsTable Orbits = ⊥
+ReadsTable Hall = ⊥
+ReadsTable Identify = Unit {0}
+ReadsTable Standard = Unit {0}
+ReadsTable Compare = ⊥
+ReadsTable Moments = ⊥
+ReadsTable (Fill f) = ⊥
+ReadsTable (Selfrun seed) = ⊥

@@ -1,6 +1,8 @@
-ghost use Rattle.std.specs.Prelude.{◌≡◌, drop};
-ghost use Rattle.command_words.specs.Commands.{command, command_name, behind_name, alone, argument, from_seed, no_options, one_more, options, seeded};
+ghost use Rattle.std.specs.Prelude.{◌≡◌, ◌≤◌, drop, length, IfOk};
+ghost use Rattle.command_words.specs.Commands.{command, command_name, behind_name, alone, argument, filled, filling, from_seed, no_options, one_more, options, seeded};
+ghost use Rattle.command_words.specs.Fillings.{HasSmallMoment};
 
+use crate::filling::{Filling, component};
 use crate::options::{Options, count};
 use crate::words::Words;
 
@@ -30,6 +32,18 @@ pub enum Command {
     /// Which groups of a table the crystal has, with the maps; the table's name is the one further word.
     Identify,
 
+    /// The crystal in the basis of the first symbol of a table that has a map; the table's name is the one further word.
+    Standard,
+
+    /// All maps onto the crystal of another cell file, whose name is the one further word.
+    Compare,
+
+    /// Which moments the site of each atom allows.
+    Moments,
+
+    /// The primitive cell with this moment at an atom, and with those to which the symmetry operations carry it.
+    Fill(Filling),
+
     /// The summary of the cell that this seed generates.
     Selfrun(u32),
 }
@@ -52,10 +66,11 @@ pub enum UsageFault {
     /// The last word is an option that needs a value.
     MissingValue,
 
-    /// The value of an option, or the seed, does not have 1 to 9 digits and nothing else.
+    /// The value of an option, the seed or the number of the atom does not have 1 to 9 digits and nothing else, or a component
+    /// of the moment has more than those behind a sign.
     BadValue,
 
-    /// The symbol, the name of the table or the seed is missing.
+    /// The symbol, the name of the table or of the other cell, the seed, or the atom or its moment is missing.
     MissingWord,
 
     /// There are words behind those that the command takes.
@@ -122,6 +137,31 @@ fn from_seed(words: &Words) -> Result<Command, UsageFault>
     one_more(run, words)
 }
 
+/// The moment for an atom that the four words behind the command's name give.
+fn filling(words: &Words) -> Result<Command, UsageFault>
+    requires { 5 ≤ length words.now }
+    ensures { result ≡ filling (drop 1 words.now) }
+{
+    let atom = count(words.word(1))?;
+    let a = component(words.word(2))?;
+    let b = component(words.word(3))?;
+    let c = component(words.word(4))?;
+    Ok(Command::Fill(Filling { atom, a, b, c }))
+}
+
+/// The moment for an atom, where four words stand behind the command's name.
+fn filled(words: &Words) -> Result<Command, UsageFault>
+    ensures { result ≡ filled (drop 1 words.now) }
+{
+    if words.count() < 5 {
+        return Err(UsageFault::MissingWord);
+    }
+    if words.count() > 5 {
+        return Err(UsageFault::ExtraWord);
+    }
+    filling(words)
+}
+
 /// The command that a word names.
 #[derive(Clone, Copy)]
 enum CommandName {
@@ -131,6 +171,10 @@ enum CommandName {
     Orbits,
     Hall,
     Identify,
+    Standard,
+    Compare,
+    Moments,
+    Fill,
     Selfrun,
 }
 
@@ -156,6 +200,18 @@ fn command_name(word: &[u8]) -> Option<CommandName>
     if word == b"identify".as_slice() {
         return Some(CommandName::Identify);
     }
+    if word == b"standard".as_slice() {
+        return Some(CommandName::Standard);
+    }
+    if word == b"compare".as_slice() {
+        return Some(CommandName::Compare);
+    }
+    if word == b"moments".as_slice() {
+        return Some(CommandName::Moments);
+    }
+    if word == b"fill".as_slice() {
+        return Some(CommandName::Fill);
+    }
     if word == b"selfrun".as_slice() {
         return Some(CommandName::Selfrun);
     }
@@ -173,12 +229,16 @@ fn behind_name(name: CommandName, words: &Words) -> Result<Command, UsageFault>
         CommandName::Orbits => alone(Command::Orbits, words),
         CommandName::Hall => one_more(Ok(Command::Hall), words),
         CommandName::Identify => one_more(Ok(Command::Identify), words),
+        CommandName::Standard => one_more(Ok(Command::Standard), words),
+        CommandName::Compare => one_more(Ok(Command::Compare), words),
+        CommandName::Moments => alone(Command::Moments, words),
+        CommandName::Fill => filled(words),
         CommandName::Selfrun => from_seed(words),
     }
 }
 
-/// What the words ask for, or their first fault from the left. It takes no memory.
-pub fn read_words(words: &Words) -> Result<Command, UsageFault>
+/// What the words ask for, or their first fault from the left.
+fn asked(words: &Words) -> Result<Command, UsageFault>
     ensures { result ≡ command words.now }
 {
     if words.count() == 0 {
@@ -188,4 +248,14 @@ pub fn read_words(words: &Words) -> Result<Command, UsageFault>
         Some(name) => behind_name(name, words),
         None => Err(UsageFault::UnknownCommand),
     }
+}
+
+/// What the words ask for, or their first fault from the left. It takes no memory.
+///
+/// The components of a moment have up to 9 digits.
+pub fn read_words(words: &Words) -> Result<Command, UsageFault>
+    ensures value { result ≡ command words.now }
+    ensures small { IfOk result HasSmallMoment }
+{
+    asked(words)
 }

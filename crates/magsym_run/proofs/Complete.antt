@@ -1,4 +1,5 @@
--- What each status says leaves only the whole report, or want of memory, where nothing stands in the way of a report.
+-- What each status says leaves only the whole report, that there is none for what was asked, or want of memory, where nothing
+-- stands in the way of a report.
 use Rattle.std.proofs.Common.{◌≡◌, sym, ap, subst, ◌∙◌, ◌⊎◌, inl, inr, ℕ, ◌+◌, ◌≤◌, nat_lt, true, List, [], ◌∷◌, ◌++◌, length, Some, None, append-nil, arith}
 use Rattle.std.proofs.lemmas.List.{length-append}
 use Rattle.std.specs.declared.option.Option.{Option}
@@ -6,7 +7,7 @@ use Rattle.std.specs.declared.result.Result.TheVariants.{Ok, Err}
 use Rattle.std.specs.Io.KnownBytes.{Consumes, IsAtEnd}
 use Rattle.cell_text.specs.Rules.{cell_fault}
 use Rattle.run_status.specs.declared.status.Status.{Status}
-use Rattle.run_status.specs.declared.status.Status.TheVariants.{Done, NoMatch, Usage, CellTooLong, CellRefused, SymbolRefused, TableRefused, TableTooLong, ReadFault, WriteFault, Memory}
+use Rattle.run_status.specs.declared.status.Status.TheVariants.{Done, NoMatch, Different, NotAllowed, Usage, CellTooLong, CellRefused, NoSuchAtom, OtherTooLong, OtherRefused, SymbolRefused, TableRefused, TableTooLong, ReadFault, WriteFault, Memory, TooWide}
 use Rattle.hall_symbol.specs.Symbols.{HallSymbol, generators}
 use Rattle.hall_symbol.specs.Spelling.{symbol_fault}
 use Rattle.hall_symbol.specs.Cuts.{behind_first_word}
@@ -20,11 +21,11 @@ use Rattle.hall_text.specs.declared.fault.RowFault.{RowFault}
 use Rattle.hall_text.specs.declared.fault.RowFault.TheVariants as faults
 use Rattle.answers.specs.HallReports.{IsSymbolFault}
 use Rattle.command_words.specs.declared.command.Command.{Command}
-use Rattle.command_words.specs.declared.command.Command.TheVariants.{Symmetry, Primitive, Dataset, Orbits, Hall, Identify, Selfrun}
-use Rattle.command_words.specs.Commands.{command, argument, ReadsCell}
-use Rattle.command_runs.specs.Outcomes.{Streams, Outcome, IsAskedOfCell, IsTableWanted, FailsToReadTable}
-use Rattle.run_status.specs.StatusKinds.{kind_of, IsDoneOrMemory}
-use Rattle.magsym_run.specs.Completeness.{IsAnswerable, IsThere, SpellsCell, HasTable, HasGroup}
+use Rattle.command_words.specs.declared.command.Command.TheVariants.{Symmetry, Primitive, Dataset, Orbits, Hall, Identify, Standard, Compare, Moments, Fill, Selfrun}
+use Rattle.command_words.specs.Commands.{command, argument, ReadsCell, ReadsTable}
+use Rattle.command_runs.specs.Outcomes.{Streams, Outcome, IsAskedOfCell, IsTableWanted, IsOtherWanted, FailsToReadFile}
+use Rattle.run_status.specs.StatusKinds.{kind_of, IsAnswered}
+use Rattle.magsym_run.specs.Completeness.{IsAnswerable, IsThere, SpellsCell, IsKept, HasTable, HasOther, HasGroup}
 
 -- what was read to the end is all of a known text
 read_is_text : (left after : Option (List ℕ)) (text read : List ℕ) → left ≡ Some text → Consumes left after read → IsAtEnd after → text ≡ read
@@ -53,6 +54,10 @@ spells_cell Dataset word s reads there = there
 spells_cell Orbits word s reads there = there
 spells_cell Hall word s reads there = absurd reads
 spells_cell Identify word s reads there = there.0
+spells_cell Standard word s reads there = there.0
+spells_cell Compare word s reads there = there.0
+spells_cell Moments word s reads there = there
+spells_cell (Fill f) word s reads there = there
 spells_cell (Selfrun seed) word s reads there = absurd reads
 
 -- where the words ask for a command that reads a cell, the input spells one
@@ -72,11 +77,31 @@ group_faultless word faults.TooManyMatrices g f =
 group_faultless word faults.TooManyRows g f = f
 group_faultless word faults.BadRow g f = f
 
+-- a command that reads a table works on that of its word
+has_table : (request : Command) (word : List ℕ) (s : Streams) → ReadsTable request → IsThere request word s → HasTable word s
+has_table (Symmetry time skip most) word s reads there = absurd reads
+has_table Primitive word s reads there = absurd reads
+has_table Dataset word s reads there = absurd reads
+has_table Orbits word s reads there = absurd reads
+has_table Hall word s reads there = absurd reads
+has_table Identify word s reads there = there.1
+has_table Standard word s reads there = there.1
+has_table Compare word s reads there = absurd reads
+has_table Moments word s reads there = absurd reads
+has_table (Fill f) word s reads there = absurd reads
+has_table (Selfrun seed) word s reads there = absurd reads
+
 -- where a table is wanted there is one
 table_there : (ws : List (List ℕ)) (s : Streams) → IsTableWanted ws s.input s.input_after → IsAnswerable ws s → HasTable (argument ws) s
 table_there ws s wanted a =
-    let same = asked_once ws Identify a.request wanted.asked a.asked in
-    let there : IsThere Identify (argument ws) s = subst (λ (c : Command). IsThere c (argument ws) s) (sym same) a.there in there.1
+    let same = asked_once ws wanted.request a.request wanted.asked a.asked in
+    has_table a.request (argument ws) s (subst ReadsTable same wanted.reads) a.there
+
+-- where another cell is wanted there is one
+other_there : (ws : List (List ℕ)) (s : Streams) → IsOtherWanted ws s.input s.input_after → IsAnswerable ws s → HasOther (argument ws) s
+other_there ws s wanted a =
+    let same = asked_once ws Compare a.request wanted.asked a.asked in
+    let there : IsThere Compare (argument ws) s = subst (λ (c : Command). IsThere c (argument ws) s) (sym same) a.there in there.1
 
 -- a file that was read to its end is all of a known one
 file_is_text : (told : Option Files) (left : Option (List ℕ)) (files : Files) (name text read : List ℕ) → told ≡ Some files → files name ≡ Some text → Leaves told name read left → IsAtEnd left → text ≡ read
@@ -108,12 +133,12 @@ missing_not (Some fs) files name text e f m =
     let none : fs name ≡ None = m in absurd cc
 
 -- a store that works and has the file doesn't fail to give it
-table_had : (name : List ℕ) (s : Streams) → HasTable name s → FailsToReadTable s.shelf_highest s.shelf s.shelf_after name → ⊥
-table_had name s t r = by r.cause
+file_had : (limit : ℕ) (name text : List ℕ) (s : Streams) → IsKept limit name text s → FailsToReadFile s.shelf_highest s.shelf s.shelf_after name → ⊥
+file_had limit name text s t r = by r.cause
   where
     by : (Rose s.shelf_highest s.shelf.picked.faults s.shelf_after.picked.faults ⊎ IsMissing s.shelf.files name) → ⊥
     by (inl rose) = t.shelf_works rose
-    by (inr missing) = missing_not s.shelf.files t.files name t.text t.are_files t.is_file missing
+    by (inr missing) = missing_not s.shelf.files t.files name text t.are_files t.is_file missing
 
 -- a row without a fault has none
 row_faultless : (n : ℕ) (line : List ℕ) (fault : RowFault) → IsRow n line → IsRowFault n line fault → ⊥
@@ -130,16 +155,23 @@ no_first_fault n (line ∷ later) i fault r (inl f) = row_faultless (n + 1) line
 no_first_fault n (line ∷ later) i fault r (inr f) = no_first_fault (n + 1) later i fault r.1 f.1
 
 -- by cases on the status
-pub complete_of_outcome : (ws : List (List ℕ)) (s : Streams) (status : Status) → Outcome ws s status → IsAnswerable ws s → IsDoneOrMemory (kind_of status)
+pub complete_of_outcome : (ws : List (List ℕ)) (s : Streams) (status : Status) → Outcome ws s status → IsAnswerable ws s → IsAnswered (kind_of status)
 complete_of_outcome ws s (Done kept) o a = tt
 complete_of_outcome ws s (NoMatch q) o a = tt
+complete_of_outcome ws s (Different q q') o a = tt
+complete_of_outcome ws s (NotAllowed q) o a = tt
+complete_of_outcome ws s (TooWide q) o a = tt
+complete_of_outcome ws s NoSuchAtom o a = tt
 complete_of_outcome ws s Memory o a = tt
 complete_of_outcome ws s (Usage fault) o a =
     let asked : command ws ≡ Ok a.request = a.asked in
     let faulty : command ws ≡ Err fault = o in absurd cc
 complete_of_outcome ws s (WriteFault written kept) o a = absurd (a.output_works o.cause)
 complete_of_outcome ws s ReadFault (inl o) a = absurd ((cell_there ws s o.0 a).input_works o.1.cause)
-complete_of_outcome ws s ReadFault (inr o) a = absurd (table_had (argument ws) s (table_there ws s o.0 a) o.1)
+complete_of_outcome ws s ReadFault (inr (inl wanted, r)) a =
+    let t = table_there ws s wanted a in absurd (file_had 1048576 (argument ws) t.text s t.kept r)
+complete_of_outcome ws s ReadFault (inr (inr wanted, r)) a =
+    let t = other_there ws s wanted a in absurd (file_had 262144 (argument ws) t.text s t.kept r)
 complete_of_outcome ws s (CellRefused line fault) o a =
     let c = cell_there ws s o.0 a in
     let same = read_is_text s.input.left s.input_after.left c.text o.1.text c.is_input o.1.read.taken o.1.read.none_left in
@@ -151,13 +183,22 @@ complete_of_outcome ws s CellTooLong o a =
     absurd (omega (arith, within, o.1.count, c.short))
 complete_of_outcome ws s (TableRefused row fault) o a =
     let t = table_there ws s o.0 a in
-    let same = file_is_text s.shelf.files s.shelf_after.picked.left t.files (argument ws) t.text o.1.text t.are_files t.is_file o.1.read.taken o.1.read.none_left in
+    let same = file_is_text s.shelf.files s.shelf_after.picked.left t.kept.files (argument ws) t.text o.1.text t.kept.are_files t.kept.is_file o.1.read.taken o.1.read.none_left in
     let faultless : AreRows 0 (rows o.1.text) = subst (λ (text : List ℕ). AreRows 0 (rows text)) same t.spelled.faultless in
     absurd (no_first_fault 0 (rows o.1.text) row fault faultless o.1.first)
 complete_of_outcome ws s TableTooLong o a =
     let t = table_there ws s o.0 a in
-    let within = file_within s.shelf.files s.shelf_after.picked.left t.files (argument ws) t.text o.1.taken t.are_files t.is_file o.1.leaves in
-    absurd (omega (arith, within, o.1.count, t.short))
+    let within = file_within s.shelf.files s.shelf_after.picked.left t.kept.files (argument ws) t.text o.1.taken t.kept.are_files t.kept.is_file o.1.leaves in
+    absurd (omega (arith, within, o.1.count, t.kept.short))
+complete_of_outcome ws s (OtherRefused line fault) o a =
+    let t = other_there ws s o.0 a in
+    let same = file_is_text s.shelf.files s.shelf_after.picked.left t.kept.files (argument ws) t.text o.1.text t.kept.are_files t.kept.is_file o.1.read.taken o.1.read.none_left in
+    let none : cell_fault o.1.text ≡ None = subst (λ (text : List ℕ). cell_fault text ≡ None) same t.spelled.faultless in
+    let some : cell_fault o.1.text ≡ Some (line, fault) = o.1.first in absurd cc
+complete_of_outcome ws s OtherTooLong o a =
+    let t = other_there ws s o.0 a in
+    let within = file_within s.shelf.files s.shelf_after.picked.left t.kept.files (argument ws) t.text o.1.taken t.kept.are_files t.kept.is_file o.1.leaves in
+    absurd (omega (arith, within, o.1.count, t.kept.short))
 complete_of_outcome ws s (SymbolRefused fault) o a =
     let same = asked_once ws Hall a.request o.0 a.asked in
     let there : IsThere Hall (argument ws) s = subst (λ (c : Command). IsThere c (argument ws) s) (sym same) a.there in

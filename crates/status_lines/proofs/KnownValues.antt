@@ -8,7 +8,7 @@ use Rattle.hall_symbol.specs.declared.fault.HallFault.TheVariants.{Empty, BadTok
 use Rattle.hall_text.specs.declared.fault.RowFault.TheVariants.{Symbol, TooManyMatrices, TooManyRows, BadRow}
 use Rattle.crystal_spec.specs.Matrices.{identity}
 use Rattle.report_basis.specs.declared.Kept.TheVariants.{NoBase}
-use Rattle.run_status.specs.declared.status.Status.TheVariants.{Done, NoMatch, Usage, CellTooLong, CellRefused, SymbolRefused, TableRefused, TableTooLong, ReadFault, WriteFault, Memory}
+use Rattle.run_status.specs.declared.status.Status.TheVariants.{Done, NoMatch, Different, NotAllowed, Usage, CellTooLong, CellRefused, NoSuchAtom, OtherTooLong, OtherRefused, SymbolRefused, TableRefused, TableTooLong, ReadFault, WriteFault, Memory, TooWide}
 use Rattle.status_lines.specs.Statuses.{line_of}
 
 -- ---- lines
@@ -46,6 +46,25 @@ line_of_long_cell = refl
 line_of_not_magcell : line_of (CellRefused 1 NotMagcell) ≡ codes "magsym: line 1: not a magcell 1 or 2 file\n"
 unfolding digits
 line_of_not_magcell = refl
+
+line_of_no_atom_of_the_number : line_of NoSuchAtom ≡ codes "magsym: no such atom\n"
+line_of_no_atom_of_the_number = refl
+
+line_of_moment_not_allowed : line_of (NotAllowed identity) ≡ codes "magsym: moment is not allowed at this site\n"
+line_of_moment_not_allowed = refl
+
+line_of_wide_cell : line_of (TooWide identity) ≡ codes "magsym: standard cell is too large\n"
+line_of_wide_cell = refl
+
+line_of_different_crystals : line_of (Different identity identity) ≡ codes ""
+line_of_different_crystals = refl
+
+line_of_other_cell : line_of (OtherRefused 12 BadByte) ≡ codes "magsym: other line 12: byte is not plain ASCII\n"
+unfolding digits
+line_of_other_cell = refl
+
+line_of_long_other_cell : line_of OtherTooLong ≡ codes "magsym: other cell is longer than 262144 bytes\n"
+line_of_long_other_cell = refl
 
 line_of_bad_byte : line_of (CellRefused 2 BadByte) ≡ codes "magsym: line 2: byte is not plain ASCII\n"
 unfolding digits

@@ -1,5 +1,6 @@
 -- The line that tells how a run ended.
 --   fault_text fault   what the line says of a fault of the cell file
+--   refusal place line fault   the line on a cell file that breaks a rule, which begins with this place
 --   line_of status     what goes to the error stream: nothing after a whole report, else one line
 use Rattle.std.specs.Prelude.{ℕ, List, [], ◌∷◌, ◌++◌, codes, decimal}
 use Rattle.plain_text.specs.declared.texts.TheConstants.{BAD_NUMBER, NUMBER_RANGE, ZERO_DENOMINATOR}
@@ -10,7 +11,7 @@ use Rattle.cell_text.specs.declared.fault.CellFault.TheVariants.{NotMagcell, Bad
 use Rattle.command_words.specs.declared.command.UsageFault.{UsageFault}
 use Rattle.command_words.specs.declared.command.UsageFault.TheVariants.{NoCommand, UnknownCommand, UnknownOption, RepeatedOption, MissingValue, BadValue, MissingWord, ExtraWord}
 use Rattle.run_status.specs.declared.status.Status.{Status}
-use Rattle.run_status.specs.declared.status.Status.TheVariants.{Done, NoMatch, Usage, CellTooLong, CellRefused, SymbolRefused, TableRefused, TableTooLong, ReadFault, WriteFault, Memory}
+use Rattle.run_status.specs.declared.status.Status.TheVariants.{Done, NoMatch, Different, NotAllowed, Usage, CellTooLong, CellRefused, NoSuchAtom, OtherTooLong, OtherRefused, SymbolRefused, TableRefused, TableTooLong, ReadFault, WriteFault, Memory, TooWide}
 
 -- `magsym: `, the sentence and LF
 abbrev pub told : List ℕ → List ℕ
@@ -48,15 +49,25 @@ fault_text (SamePlace i j) = BEFORE_ATOMS.now ++ decimal i ++ BETWEEN_ATOMS.now 
 fault_text NoEnd = NO_END.now
 fault_text AfterEnd = AFTER_END.now
 
+-- the line with this number, and the rule that it breaks
+abbrev pub refusal : List ℕ → ℕ → CellFault → List ℕ
+refusal place line fault = told (place ++ decimal line ++ codes ": " ++ fault_text fault)
+
 abbrev pub line_of : Status → List ℕ
 line_of (Done kept) = []
 line_of (NoMatch q) = []
+line_of (Different q q') = []
+line_of (NotAllowed q) = told (codes "moment is not allowed at this site")
 line_of (Usage fault) = usage_line fault
 line_of CellTooLong = told (codes "cell is longer than 262144 bytes")
-line_of (CellRefused line fault) = told (codes "line " ++ decimal line ++ codes ": " ++ fault_text fault)
+line_of (CellRefused line fault) = refusal (codes "line ") line fault
+line_of NoSuchAtom = told (codes "no such atom")
+line_of OtherTooLong = told (codes "other cell is longer than 262144 bytes")
+line_of (OtherRefused line fault) = refusal (codes "other line ") line fault
 line_of (SymbolRefused fault) = told (codes "symbol: " ++ row_text fault)
 line_of (TableRefused row fault) = told (codes "row " ++ decimal row ++ codes ": " ++ row_text fault)
 line_of TableTooLong = told (codes "table is longer than 1048576 bytes")
 line_of ReadFault = told (codes "reading failed")
 line_of (WriteFault written kept) = told (codes "writing failed")
 line_of Memory = told OUT_OF_MEMORY.now
+line_of (TooWide q) = told (codes "standard cell is too large")

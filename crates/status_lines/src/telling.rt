@@ -1,11 +1,11 @@
 ghost use Rattle.std.specs.Prelude.{◌≡◌, ◌≤◌, ◌++◌, map, codes, decimal};
 ghost use Rattle.std.specs.List.{concat};
 ghost use Rattle.status_lines.specs.Telling.{Tells};
-ghost use Rattle.run_status.specs.declared.status.Status.TheVariants.{CellRefused, SymbolRefused, TableRefused};
+ghost use Rattle.run_status.specs.declared.status.Status.TheVariants.{SymbolRefused, TableRefused};
 ghost use Rattle.cell_text.specs.declared.fault.CellFault.TheVariants.{SamePlace};
 ghost use Rattle.hall_symbol.specs.FaultTexts.{digits_of};
 ghost use Rattle.run_status.specs.StatusKinds.{kind_of, IsDone};
-ghost use Rattle.status_lines.specs.Statuses.{told, fault_text, line_of};
+ghost use Rattle.status_lines.specs.Statuses.{told, fault_text, refusal, line_of};
 
 use cell_text::{CellFault, texts};
 use command_words::UsageFault;
@@ -26,10 +26,10 @@ fn tell_pieces<E: Sink>(err: &mut E, pieces: &[&[u8]])
     }
 }
 
-/// Writes that a line of the cell file breaks a rule, and the text on the rule.
-fn tell_at<E: Sink>(err: &mut E, line: u32, fault: &CellFault, text: &str)
+/// Writes that a line of a cell file breaks a rule, and the text on the rule.
+fn tell_at<E: Sink>(err: &mut E, place: &[u8], line: u32, fault: &CellFault, text: &str)
     requires { text.now ≡ fault_text fault.now }
-    ensures told { Tells E.highest_count (E.state err.old) (E.state err.new) (line_of (CellRefused line fault.now)) }
+    ensures told { Tells E.highest_count (E.state err.old) (E.state err.new) (refusal place.now line fault.now) }
     ensures later { (E.state err.old).faults ≤ (E.state err.new).faults }
 {
     let mut number = Buffer::new();
@@ -37,7 +37,8 @@ fn tell_at<E: Sink>(err: &mut E, line: u32, fault: &CellFault, text: &str)
     tell_pieces(
         err,
         &[
-            b"magsym: line ".as_slice(),
+            b"magsym: ".as_slice(),
+            place,
             line,
             b": ",
             text.as_bytes(),
@@ -46,9 +47,9 @@ fn tell_at<E: Sink>(err: &mut E, line: u32, fault: &CellFault, text: &str)
     );
 }
 
-/// Writes that a line of the cell file gives an atom at the position of another.
-fn tell_same_place<E: Sink>(err: &mut E, line: u32, first: u32, second: u32)
-    ensures told { Tells E.highest_count (E.state err.old) (E.state err.new) (line_of (CellRefused line (SamePlace first second))) }
+/// Writes that a line of a cell file gives an atom at the position of another.
+fn tell_same_place<E: Sink>(err: &mut E, place: &[u8], line: u32, first: u32, second: u32)
+    ensures told { Tells E.highest_count (E.state err.old) (E.state err.new) (refusal place.now line (SamePlace first second)) }
     ensures later { (E.state err.old).faults ≤ (E.state err.new).faults }
 {
     let (mut number, mut one, mut other) = (Buffer::new(), Buffer::new(), Buffer::new());
@@ -58,7 +59,8 @@ fn tell_same_place<E: Sink>(err: &mut E, line: u32, first: u32, second: u32)
     tell_pieces(
         err,
         &[
-            b"magsym: line ".as_slice(),
+            b"magsym: ".as_slice(),
+            place,
             line,
             b": ",
             texts::BEFORE_ATOMS.as_bytes(),
@@ -71,31 +73,31 @@ fn tell_same_place<E: Sink>(err: &mut E, line: u32, first: u32, second: u32)
     );
 }
 
-/// Writes the line on a cell that is refused.
-fn tell_refused<E: Sink>(err: &mut E, line: u32, fault: &CellFault)
-    ensures told { Tells E.highest_count (E.state err.old) (E.state err.new) (line_of (CellRefused line fault.now)) }
+/// Writes the line on a cell file that breaks a rule.
+fn tell_refused<E: Sink>(err: &mut E, place: &[u8], line: u32, fault: &CellFault)
+    ensures told { Tells E.highest_count (E.state err.old) (E.state err.new) (refusal place.now line fault.now) }
     ensures later { (E.state err.old).faults ≤ (E.state err.new).faults }
 {
     match fault {
-        CellFault::NotMagcell => tell_at(err, line, fault, texts::NOT_MAGCELL),
-        CellFault::BadByte => tell_at(err, line, fault, texts::BAD_BYTE),
-        CellFault::BadLine => tell_at(err, line, fault, texts::BAD_LINE),
-        CellFault::BadNumber => tell_at(err, line, fault, texts::BAD_NUMBER),
-        CellFault::NumberRange => tell_at(err, line, fault, texts::NUMBER_RANGE),
-        CellFault::ZeroDenominator => tell_at(err, line, fault, texts::ZERO_DENOMINATOR),
-        CellFault::MetricTwice => tell_at(err, line, fault, texts::METRIC_TWICE),
-        CellFault::KindTwice => tell_at(err, line, fault, texts::KIND_TWICE),
-        CellFault::KindLate => tell_at(err, line, fault, texts::KIND_LATE),
-        CellFault::MetricMissing => tell_at(err, line, fault, texts::METRIC_MISSING),
-        CellFault::MetricRange => tell_at(err, line, fault, texts::METRIC_RANGE),
-        CellFault::NotPositive => tell_at(err, line, fault, texts::NOT_POSITIVE),
-        CellFault::PositionRange => tell_at(err, line, fault, texts::POSITION_RANGE),
-        CellFault::MomentRange => tell_at(err, line, fault, texts::MOMENT_RANGE),
-        CellFault::TooManyAtoms => tell_at(err, line, fault, texts::TOO_MANY_ATOMS),
-        CellFault::NoAtom => tell_at(err, line, fault, texts::NO_ATOM),
-        CellFault::SamePlace(i, j) => tell_same_place(err, line, *i, *j),
-        CellFault::NoEnd => tell_at(err, line, fault, texts::NO_END),
-        CellFault::AfterEnd => tell_at(err, line, fault, texts::AFTER_END),
+        CellFault::NotMagcell => tell_at(err, place, line, fault, texts::NOT_MAGCELL),
+        CellFault::BadByte => tell_at(err, place, line, fault, texts::BAD_BYTE),
+        CellFault::BadLine => tell_at(err, place, line, fault, texts::BAD_LINE),
+        CellFault::BadNumber => tell_at(err, place, line, fault, texts::BAD_NUMBER),
+        CellFault::NumberRange => tell_at(err, place, line, fault, texts::NUMBER_RANGE),
+        CellFault::ZeroDenominator => tell_at(err, place, line, fault, texts::ZERO_DENOMINATOR),
+        CellFault::MetricTwice => tell_at(err, place, line, fault, texts::METRIC_TWICE),
+        CellFault::KindTwice => tell_at(err, place, line, fault, texts::KIND_TWICE),
+        CellFault::KindLate => tell_at(err, place, line, fault, texts::KIND_LATE),
+        CellFault::MetricMissing => tell_at(err, place, line, fault, texts::METRIC_MISSING),
+        CellFault::MetricRange => tell_at(err, place, line, fault, texts::METRIC_RANGE),
+        CellFault::NotPositive => tell_at(err, place, line, fault, texts::NOT_POSITIVE),
+        CellFault::PositionRange => tell_at(err, place, line, fault, texts::POSITION_RANGE),
+        CellFault::MomentRange => tell_at(err, place, line, fault, texts::MOMENT_RANGE),
+        CellFault::TooManyAtoms => tell_at(err, place, line, fault, texts::TOO_MANY_ATOMS),
+        CellFault::NoAtom => tell_at(err, place, line, fault, texts::NO_ATOM),
+        CellFault::SamePlace(i, j) => tell_same_place(err, place, line, *i, *j),
+        CellFault::NoEnd => tell_at(err, place, line, fault, texts::NO_END),
+        CellFault::AfterEnd => tell_at(err, place, line, fault, texts::AFTER_END),
     }
 }
 
@@ -167,8 +169,9 @@ pub fn tell<E: Sink>(err: &mut E, status: &Status)
     ensures later { (E.state err.old).faults ≤ (E.state err.new).faults }
 {
     match status {
-        Status::CellRefused(line, fault) => tell_refused(err, *line, fault),
-        Status::Done(_) | Status::NoMatch(_) => {}
+        Status::CellRefused(line, fault) => tell_refused(err, b"line ", *line, fault),
+        Status::OtherRefused(line, fault) => tell_refused(err, b"other line ", *line, fault),
+        Status::Done(_) | Status::NoMatch(_) | Status::Different(_, _) => {}
         Status::Usage(UsageFault::NoCommand) => tell_text(err, b"no command"),
         Status::Usage(UsageFault::UnknownCommand) => tell_text(err, b"unknown command"),
         Status::Usage(UsageFault::UnknownOption) => tell_text(err, b"unknown option"),
@@ -184,6 +187,10 @@ pub fn tell<E: Sink>(err: &mut E, status: &Status)
         Status::TableRefused(row, fault) => tell_table(err, *row, fault),
         Status::TableTooLong => tell_text(err, b"table is longer than 1048576 bytes"),
         Status::CellTooLong => tell_text(err, b"cell is longer than 262144 bytes"),
+        Status::OtherTooLong => tell_text(err, b"other cell is longer than 262144 bytes"),
+        Status::NoSuchAtom => tell_text(err, b"no such atom"),
+        Status::NotAllowed(_) => tell_text(err, b"moment is not allowed at this site"),
+        Status::TooWide(_) => tell_text(err, b"standard cell is too large"),
         Status::ReadFault => tell_text(err, b"reading failed"),
         Status::WriteFault(_, _) => tell_text(err, b"writing failed"),
         Status::Memory => tell_text(err, texts::OUT_OF_MEMORY.as_bytes()),

@@ -12,7 +12,7 @@ const FAILURES: &[Row] = &[
     Row("symmetry", CUBIC, WriteFails(2, b"-x,-y,-z,+")),
     // The status is that of the refusal, and a front part of its line is out.
     Row("symmetry", b"", TellFails(1, 3, b"")),
-    Row("symmetry", b"", TellFails(2, 3, b"magsym: li")),
+    Row("symmetry", b"", TellFails(2, 3, b"magsym: ")),
 ];
 
 #[test]

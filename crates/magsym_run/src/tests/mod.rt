@@ -2,19 +2,25 @@
 //
 // A test is proved before it is run, and what takes long to prove is a value that is dropped beside ways out and tables that
 // a body builds. So each test is one call over a constant table: a row has the words, the input and how the run has to end,
-// `first_wrong` goes through the rows, and what a run owns stands in `holds_over` alone. It judges what every run shows: the
+// `first_wrong` goes through the rows, and what a run owns stands in `holds_with` alone. It judges what every run shows: the
 // exit status, both outputs, how many bytes a cut output holds, and that words outside the rule leave the input.
+ghost use Rattle.std.specs.Prelude.{◌<◌};
+
+mod compare;
 mod dataset;
 mod decimals;
 mod faults;
 mod hall;
 mod identify;
 mod kinds;
+mod moments;
 mod oblique;
 mod orbits;
 mod pages;
 mod primitive;
 mod selfrun;
+mod standard;
+mod sweeps;
 mod symmetry;
 mod usage;
 
@@ -61,6 +67,9 @@ const ALTERNATING: &[u8] =
 /// A hexagonal crystal without moments.
 const HEXAGONAL: &[u8] = b"magcell 1\nmetric 2 2 5 0 0 -1\natom A 0 0 0\nend\n";
 
+/// One moment in no special direction, away from the origin.
+const SHIFTED: &[u8] = b"magcell 1\nmetric 4 5 6 1 1 1\natom X 1/7 1/7 1/7 1 2 3\nend\n";
+
 /// A moment in no special direction.
 const TILTED: &[u8] = b"magcell 1\nmetric 4 5 6 1 1 1\natom X 0 0 0 1 2 3\nend\n";
 
@@ -74,6 +83,7 @@ const RUTILE: &[u8] =
 atom F 61/200 61/200 0\natom F -61/200 -61/200 0\natom F 161/200 39/200 1/2\natom F 39/200 161/200 1/2\nend\n";
 
 /// How a run has to end.
+#[derive(Clone, Copy)]
 enum Ends {
     /// With these bytes as the report.
     Whole(&'static [u8]),
@@ -84,7 +94,7 @@ enum Ends {
     /// With these bytes as the report, and a status that keeps Q, which is diagonal with these entries.
     Based([i128; 3], &'static [u8]),
 
-    /// With these bytes as the report, in which no row is matched.
+    /// With these bytes as the report, in which no row is matched, or which has no map.
     Unmatched(&'static [u8]),
 
     /// With no report, but this exit status and line.
@@ -93,7 +103,7 @@ enum Ends {
     /// As the call of this number of the input fails.
     ReadFails(u64),
 
-    /// As the call of this number of the store of tables fails.
+    /// As the call of this number of the store of files fails.
     ShelfFails(u64),
 
     /// As the call of this number of the output fails, behind these bytes.
@@ -109,7 +119,10 @@ enum Ends {
 /// The words, parted by commas, the input, and how the run over them has to end.
 struct Row(&'static str, &'static [u8], Ends);
 
-/// The input, the store of tables, the output and the error stream of a run.
+/// The same, with the file `t` of the store before the input.
+struct FileRow(&'static str, &'static [u8], &'static [u8], Ends);
+
+/// The input, the store of files, the output and the error stream of a run.
 #[derive(Drop)]
 struct Streams {
     input: MemSource,
@@ -131,20 +144,23 @@ fn asked(alloc: Global, words: &str) -> Result<Words, AllocError> {
 }
 
 /// Puts this file `t` into the store, or none.
-fn store(shelf: &mut MemShelf, table: Option<&[u8]>) -> Result<(), AllocError> {
-    match table {
-        Some(table) => shelf.put(b"t", table),
+fn store(shelf: &mut MemShelf, file: Option<&[u8]>) -> Result<(), AllocError> {
+    match file {
+        Some(file) => shelf.put(b"t", file),
         None => Ok(()),
     }
 }
 
-/// An input of these bytes, a store without files, and two outputs that hold nothing.
-fn opened(alloc: Global, input: &[u8], fails: &[u64; 4]) -> Result<Streams, AllocError> {
+/// An input of these bytes, a store without files, and two outputs that hold nothing. Their calls move at most so many bytes,
+/// and those of these numbers fail.
+fn opened(alloc: Global, input: &[u8], most: usize, fails: &[u64; 4]) -> Result<Streams, AllocError>
+    requires { 0 < most }
+{
     Ok(Streams {
-        input: MemSource::new(alloc, input, MOST, &fails[0..1])?,
-        shelf: MemShelf::new(alloc, MOST, &fails[1..2])?,
-        out: MemSink::new(alloc, MOST, &fails[2..3])?,
-        err: MemSink::new(alloc, MOST, &fails[3..4])?,
+        input: MemSource::new(alloc, input, most, &fails[0..1])?,
+        shelf: MemShelf::new(alloc, most, &fails[1..2])?,
+        out: MemSink::new(alloc, most, &fails[2..3])?,
+        err: MemSink::new(alloc, most, &fails[3..4])?,
     })
 }
 
@@ -290,13 +306,28 @@ fn is_left(alloc: Global, input: &mut MemSource, bytes: &[u8]) -> bool {
 fn holds_over(
     alloc: Global,
     words: &str,
-    table: Option<&[u8]>,
+    file: Option<&[u8]>,
     input: &[u8],
     ends: &Ends,
 ) -> Result<bool, AllocError> {
+    holds_with(alloc, words, file, input, MOST, &ends.fails(), ends)
+}
+
+/// The same, where the calls move at most so many bytes, and those of these numbers fail.
+fn holds_with(
+    alloc: Global,
+    words: &str,
+    file: Option<&[u8]>,
+    input: &[u8],
+    most: usize,
+    fails: &[u64; 4],
+    ends: &Ends,
+) -> Result<bool, AllocError>
+    requires { 0 < most }
+{
     let words = asked(alloc, words)?;
-    let mut streams = opened(alloc, input, &ends.fails())?;
-    store(&mut streams.shelf, table)?;
+    let mut streams = opened(alloc, input, most, fails)?;
+    store(&mut streams.shelf, file)?;
     let status = ran(alloc, &words, &mut streams);
     Ok(
         is_wanted(&status, &streams, ends)
@@ -309,6 +340,17 @@ fn first_wrong(alloc: Global, rows: &[Row]) -> usize {
     for i in 0..rows.len() {
         let Row(words, input, ends) = &rows[i];
         if holds_over(alloc, words, None, input, ends) != Ok(true) {
+            return i;
+        }
+    }
+    rows.len()
+}
+
+/// The same for rows that have a file.
+fn first_wrong_file(alloc: Global, rows: &[FileRow]) -> usize {
+    for i in 0..rows.len() {
+        let FileRow(words, file, input, ends) = &rows[i];
+        if holds_over(alloc, words, Some(file), input, ends) != Ok(true) {
             return i;
         }
     }

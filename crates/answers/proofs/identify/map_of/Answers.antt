@@ -2,6 +2,7 @@ use Rattle.std.proofs.Common.{ℕ, subst, sym}
 use Rattle.op_group.specs.Groups.{IsGroupModulo}
 use Rattle.match_spec.specs.FirstMap.{HasFewMatrices}
 use Rattle.answers.proofs.IdentifyLemmas.{row_map}
+use Rattle.answers.proofs.StandardLemmas.{group_map}
 use Rattle.answers.proofs.identify.map_of.Goals as goal
 
 -- the group of the symbol, and what is known of the found one
@@ -22,4 +23,7 @@ match_row-requires c =
     }
 
 pub returns : goal.returns
-returns c = row_map c.args.found.now.n c.args.found.now.operations c.in-Ok.list.operations c.args.symbol.now c.match_row.result c.in-Ok.ensures.exact c.match_row.ensures.found c.match_row.ensures.absent
+returns c = record {
+  value = row_map c.args.found.now.n c.args.found.now.operations c.in-Ok.list.operations c.args.symbol.now c.match_row.result c.in-Ok.ensures.exact c.match_row.ensures.found c.match_row.ensures.absent;
+  group = group_map c.args.found.now.n c.args.found.now.operations c.in-Ok.list.operations c.args.symbol.now c.match_row.result c.in-Ok.ensures.exact c.in-Ok.ensures.group c.match_row.ensures.found;
+}

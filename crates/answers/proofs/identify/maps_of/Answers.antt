@@ -15,7 +15,7 @@ loop-i-preserved c later rest =
     let symbols = map (λ (row : Row). row.symbol) c.args.table.now in
     let m = c.in_ok-map_of.field-0 in
     let maps = c.loop-i.maps in
-    let whole = c.loop-i.invariant (m ∷ later) (row_before n os symbols c.loop-i.i c.symbol.result.now m later c.symbol.ensures c.in_ok-map_of.ensures rest) in
+    let whole = c.loop-i.invariant (m ∷ later) (row_before n os symbols c.loop-i.i c.symbol.result.now m later c.symbol.ensures c.in_ok-map_of.ensures.value rest) in
     subst (λ (all : List (Option Map)). AreRowMaps n os symbols all) (appended maps c.push.new.self m later c.in_ok-push.ensures.value) whole
 
 -- the maps of all rows

@@ -1,0 +1,1 @@
+use Rattle.answers.proofs.fill.answer_fill.Goals as goal

@@ -1,0 +1,1 @@
+use Rattle.answers.proofs.fill.scaled.Goals as goal
