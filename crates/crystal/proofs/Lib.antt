@@ -3,6 +3,8 @@ pub mod Ranges
 pub mod Equality
 pub mod Positions
 pub mod Folding
+pub mod Actions
+pub mod Covering
 pub mod CellLemmas
 pub mod ImageLemmas
 mod KnownValues

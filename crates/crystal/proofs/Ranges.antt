@@ -3,7 +3,7 @@
 -- The largest numbers of the test of a map are the carried moments: entries of a map up to 1.5 · 10^8 and moments up to
 -- 2 · 10^27 give coordinates up to 9 · 10^35, below the 10^36 of an integer.
 use Rattle.std.proofs.Common.{◌≡◌, refl, sym, subst, ◌⊎◌, inl, inr, ℕ, ◌+◌, ◌*◌, ◌≤◌, ◌^◌, Bool, true, false, arith}
-use Rattle.std.specs.Prelude.{ℤ, pos, negsuc, neg_ℤ, ◌*ℤ◌}
+use Rattle.std.specs.Prelude.{ℤ, pos, negsuc, neg_ℤ, ◌+ℤ◌, ◌*ℤ◌}
 use Rattle.ring.specs.Ring.{int_ops}
 use Rattle.ring.specs.Size.{AtMost}
 use Rattle.ring.proofs.Sizes.{at_most_mul, at_most_add, at_most_neg}
@@ -12,6 +12,8 @@ use Rattle.matrix3.specs.Fits.{DotFits, MinorFits, AlternatingFits, ProductFits,
 use Rattle.crystal_spec.specs.declared.MomentKind.{MomentKind}
 use Rattle.crystal_spec.specs.Matrices.{Matrix, Triple, product, image, transposed, identity, matrix_multiple}
 use Rattle.crystal_spec.specs.Moments.{turn_matrix}
+use Rattle.std.proofs.lemmas.Int.{ints}
+use Rattle.crystal_spec.proofs.Entrywise.{triple_same}
 use Rattle.crystal_spec.proofs.Isometries.{unit_cases}
 use Rattle.crystal_spec.proofs.Moments.{turn-vector, turn-scalar}
 use Rattle.crystal.specs.Bounds.{EntriesAtMost, CoordinatesAtMost}
@@ -82,6 +84,13 @@ at_most_image m n a v h k = record {
   z = at_most_dot m n _ _ _ _ _ _ h.a31 h.a32 h.a33 k.x k.y k.z;
 }
 
+-- the image of zero
+pub image-zero : (w : Matrix) → image w (record { x = pos 0; y = pos 0; z = pos 0 }) ≡ record { x = pos 0; y = pos 0; z = pos 0 }
+image-zero w = triple_same (row w.a11 w.a12 w.a13) (row w.a21 w.a22 w.a23) (row w.a31 w.a32 w.a33)
+  where
+    row : (a b c : ℤ) → (a *ℤ pos 0 +ℤ b *ℤ pos 0) +ℤ c *ℤ pos 0 ≡ pos 0
+    row a b c = omega (arith, ints)
+
 minor_fits : (m : ℕ) (a b c d : ℤ) → m * m + m * m ≤ 10 ^ 36 → AtMost m a → AtMost m b → AtMost m c → AtMost m d → MinorFits int_ops IsInt a b c d
 minor_fits m a b c d small ha hb hc hd =
     let p = at_most_mul ha hd in
@@ -109,6 +118,19 @@ determinant_fits m w two six h = record {
 
 pub coordinates_grown : {m n : ℕ} {v : Triple} → m ≤ n → CoordinatesAtMost m v → CoordinatesAtMost n v
 coordinates_grown p h = record { x = grown p h.x; y = grown p h.y; z = grown p h.z }
+
+pub entries_grown : {m n : ℕ} {a : Matrix} → m ≤ n → EntriesAtMost m a → EntriesAtMost n a
+entries_grown p h = record {
+  a11 = grown p h.a11;
+  a12 = grown p h.a12;
+  a13 = grown p h.a13;
+  a21 = grown p h.a21;
+  a22 = grown p h.a22;
+  a23 = grown p h.a23;
+  a31 = grown p h.a31;
+  a32 = grown p h.a32;
+  a33 = grown p h.a33;
+}
 
 -- ---- the matrices that act on moments
 

@@ -6,3 +6,5 @@ pub mod Occupants
 pub mod Cells
 pub mod CellFields
 pub mod Carrying
+pub mod Actions
+pub mod Covering

@@ -6,6 +6,7 @@ ghost use Rattle.crystal_spec.specs.Operations.{IsWithinCell};
 ghost use Rattle.crystal_spec.specs.Cells.{IsCell};
 ghost use Rattle.crystal.specs.Views.{metric_of, site_of, triple_of};
 ghost use Rattle.crystal.specs.Occupants.{IsOccupant, NoneAt};
+ghost use Rattle.crystal.specs.Covering.{Covers};
 ghost use Rattle.crystal.specs.Bounds.{EntriesAtMost, CoordinatesAtMost};
 ghost use Rattle.crystal.specs.Cells.{IsCellWithinLimits, IsSiteOf};
 
@@ -202,6 +203,7 @@ impl Cell {
 
     /// The number of the atom at a position, or `None` where no atom is there.
     pub(crate) fn occupant(&self, index: &PlaceIndex, place: [u32; 3]) -> Option<usize>
+        requires { Covers self.now.sites index.now }
         ensures found { IfSome result (IsOccupant self.now.sites (triple_of place)) }
         ensures below { IfSome result (λ i. i < length self.now.sites) }
         ensures absent { IfNone result (NoneAt (triple_of place) self.now.sites) }
@@ -210,7 +212,9 @@ impl Cell {
     }
 
     /// An index of the positions of its atoms.
-    pub(crate) fn index(&self, alloc: Global) -> Result<PlaceIndex, AllocError> {
+    pub(crate) fn index(&self, alloc: Global) -> Result<PlaceIndex, AllocError>
+        ensures { IfOk result (Covers self.now.sites) }
+    {
         PlaceIndex::new(alloc, &self.atoms)
     }
 

@@ -5,9 +5,11 @@
 //! and whether they are axial; each kind is acted on by one matrix.
 #![tactic(auto)]
 
+mod action;
 mod atom;
 mod carrying;
 mod cell;
+mod failure;
 mod limits;
 mod mapping;
 mod metric;
@@ -16,13 +18,16 @@ mod name;
 mod occupant;
 mod place_index;
 mod places;
+mod preimage;
 mod steps;
 #[cfg(test)]
 mod tests;
 
+pub use action::Action;
 pub use atom::Atom;
 pub use cell::Cell;
 pub use crystal_spec::{MomentKind, Sign};
+pub use failure::Failure;
 pub use limits::{MOST_ATOMS, MOST_NAMES};
 pub use mapping::translation_onto;
 pub use metric::Metric;

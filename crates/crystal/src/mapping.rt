@@ -1,7 +1,7 @@
 ghost use Rattle.std.specs.Prelude.{◌≡◌, ◌↔◌, ◌+◌, ◌*◌, ◌^◌, ◌<◌, ◌≤◌, ℤ, ◌+ℤ◌, ◌*ℤ◌, pos, IsTrue};
 ghost use Rattle.ring.specs.Size.{AtMost};
 ghost use Rattle.crystal_spec.specs.Matrices.{difference, image};
-ghost use Rattle.crystal_spec.specs.Crystals.{KeepsMetric, position_after};
+ghost use Rattle.crystal_spec.specs.Crystals.{KeepsMetric};
 ghost use Rattle.crystal.specs.Views.{triple_of};
 ghost use Rattle.crystal.specs.Bounds.{EntriesAtMost, CoordinatesAtMost};
 ghost use Rattle.crystal.specs.Carrying.{FoldsTo};
@@ -48,21 +48,6 @@ fn folded(z: Int, t: u32, n: u32) -> u32
     ensures same { (q : ℤ) × (z +ℤ pos t ≡ pos result +ℤ pos n *ℤ q) }
 {
     Residue::new((z + whole(t)).get(), n).get()
-}
-
-/// The position within the cell to which a map carries a position, but for whole cells.
-pub(crate) fn carried_place(w: &Mat3<Int>, shift: [u32; 3], place: [u32; 3], n: u32) -> [u32; 3]
-    requires map { EntriesAtMost 150000000 w.now }
-    requires at_least { 1 ≤ n }
-    requires at_most { n ≤ 10 ^ 6 }
-    ensures { FoldsTo n (position_after w.now (triple_of shift) (triple_of place)) (triple_of result) }
-{
-    let image = w.apply(&column(place));
-    [
-        folded(image.x, shift[0], n),
-        folded(image.y, shift[1], n),
-        folded(image.z, shift[2], n),
-    ]
 }
 
 /// The translation part with which the matrix carries one position onto another, but for whole cells.

@@ -1,6 +1,6 @@
 // What a map and a change of basis do to moments, by their kind: each acts by one matrix.
 
-ghost use Rattle.std.specs.Prelude.{◌≡◌, ◌*◌, ◌^◌, ◌*ℤ◌, pos};
+ghost use Rattle.std.specs.Prelude.{◌≡◌, ◌*◌, ◌^◌, ◌*ℤ◌, pos, IsTrue};
 ghost use Rattle.crystal_spec.specs.Matrices.{determinant, identity, image, matrix_multiple};
 ghost use Rattle.crystal_spec.specs.Moments.{axial_factor, turn_matrix, moment_matrix};
 ghost use Rattle.crystal_spec.specs.Operations.{sign_factor};
@@ -8,7 +8,7 @@ ghost use Rattle.crystal.specs.Bounds.{EntriesAtMost, CoordinatesAtMost};
 
 use crate::mapping::whole;
 use crystal_spec::{MomentKind, Sign};
-use exact_num::Int;
+use exact_num::{Exact, Int};
 use matrix3::{Mat3, Vec3};
 
 /// The identity matrix.
@@ -91,11 +91,21 @@ pub fn moment_matrix(kind: MomentKind, w: &Mat3<Int>, sign: Sign) -> Mat3<Int>
     matrix_multiple(factor, &turn_matrix(kind, w))
 }
 
+/// Whether the moment is zero.
+fn is_zero(moment: &Vec3<Int>) -> bool
+    ensures { IsTrue result → moment.now ≡ record { x = pos 0; y = pos 0; z = pos 0 } }
+{
+    moment.x.is_zero() && moment.y.is_zero() && moment.z.is_zero()
+}
+
 /// The image of a moment under the matrix of a map.
 pub(crate) fn carried_moment(moments: &Mat3<Int>, moment: &Vec3<Int>) -> Vec3<Int>
     requires map { EntriesAtMost 150000000 moments.now }
     requires moment { CoordinatesAtMost (2 * 10 ^ 27) moment.now }
     ensures { result ≡ image moments.now moment.now }
 {
+    if is_zero(moment) {
+        return *moment;
+    }
     moments.apply(moment)
 }

@@ -1,6 +1,7 @@
 ghost use Rattle.std.specs.Prelude.{◌≡◌, ◌↔◌, ◌<◌, length, IsTrue, IfSome, IfNone, map};
 ghost use Rattle.crystal.specs.Views.{triple_of, site_of};
 ghost use Rattle.crystal.specs.Occupants.{IsOccupant, NoneAt};
+ghost use Rattle.crystal.specs.Covering.{Covers};
 
 use crate::atom::Atom;
 use crate::place_index::PlaceIndex;
@@ -29,16 +30,16 @@ fn first_occupant(atoms: &[Atom], place: [u32; 3]) -> Option<usize>
 
 /// The number of an atom at this position, or `None` where no atom is there.
 ///
-/// Where the index proposes an atom that is there, no other is looked at.
+/// Where the index proposes an atom that is there, or none, no atom is looked at in turn.
 pub(crate) fn find_occupant(atoms: &[Atom], index: &PlaceIndex, place: [u32; 3]) -> Option<usize>
+    requires { Covers (map site_of atoms.now) index.now }
     ensures found { IfSome result (IsOccupant (map site_of atoms.now) (triple_of place)) }
     ensures below { IfSome result (λ i. i < length atoms.now) }
     ensures absent { IfNone result (NoneAt (triple_of place) (map site_of atoms.now)) }
 {
-    if let Some(i) = index.proposal(place) {
-        if i < atoms.len() && is_at(&atoms[i], place) {
-            return Some(i);
-        }
+    let i = index.proposal(place)?;
+    if i < atoms.len() && is_at(&atoms[i], place) {
+        return Some(i);
     }
     first_occupant(atoms, place)
 }

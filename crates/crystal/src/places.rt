@@ -1,13 +1,15 @@
 ghost use Rattle.std.specs.Prelude.{◌≡◌, ◌↔◌, ◌+◌, ◌<◌, IfOk, IfSome, IfNone, IsTrue, slice_index};
-ghost use Rattle.crystal_spec.specs.Crystals.{Keeps};
+ghost use Rattle.crystal_spec.specs.Crystals.{Keeps, KeepsMetric};
 ghost use Rattle.crystal_spec.specs.Operations.{sign_factor};
 ghost use Rattle.crystal.specs.Views.{triple_of};
 ghost use Rattle.crystal.specs.Bounds.{EntriesAtMost};
+ghost use Rattle.crystal.specs.Actions.{ActsOn};
 ghost use Rattle.crystal.specs.Occupants.{IsOccupant, NoneAt};
 
+use crate::action::Action;
 use crate::carrying::have_images;
 use crate::cell::Cell;
-use crate::moments::moment_matrix;
+use crate::failure::Failure;
 use crate::place_index::PlaceIndex;
 use crate::steps::Steps;
 use crystal_spec::Sign;
@@ -30,6 +32,10 @@ impl Model for Places {
     ghost Value = { Structure };
 
     ghost view = { λ p. p.cell };
+
+    ghost use Rattle.crystal.specs.Covering.{Covers};
+
+    ghost invariant = { λ p. Covers p.cell.sites p.index };
 }
 
 impl Places {
@@ -60,6 +66,40 @@ impl Places {
         self.cell.occupant(&self.index, place)
     }
 
+    /// How an isometry of the metric tensor acts on positions and moments of the cell.
+    pub fn action(&self, w: &Mat3<Int>) -> Action
+        requires map { EntriesAtMost 150000000 w.now }
+        requires isometry { KeepsMetric self.now.metric w.now }
+        ensures matrix { result.matrix ≡ w.now }
+        ensures acts { ActsOn self.now result }
+    {
+        Action::new(&self.cell, w)
+    }
+
+    /// Whether an isometry, with this translation and time sign, keeps the crystal.
+    ///
+    /// The translation is in units of 1/n. `last` says where the last map failed, which is tried first.
+    pub fn are_kept_by(
+        &self,
+        action: &Action,
+        shift: [u32; 3],
+        sign: Sign,
+        last: &mut Failure,
+    ) -> bool
+        requires { ActsOn self.now action.now }
+        ensures exact { IsTrue result ↔ Keeps self.now action.now.matrix (triple_of shift) (sign_factor sign) }
+    {
+        let _form = self.cell.count();
+        have_images(
+            &self.cell,
+            &self.index,
+            action,
+            shift,
+            action.moments(sign),
+            last,
+        )
+    }
+
     /// Whether the map of this matrix, translation and time sign keeps the crystal. It counts one step.
     ///
     /// The translation is in units of 1/n, with coordinates below n.
@@ -78,15 +118,8 @@ impl Places {
         ensures ticks { steps.new ≡ steps.old + 1 }
     {
         steps.tick();
-        let cell = &self.cell;
-        let _form = cell.count();
-        cell.metric().is_kept_by(w)
-            && have_images(
-                cell,
-                &self.index,
-                w,
-                shift,
-                &moment_matrix(cell.kind(), w, sign),
-            )
+        let _form = self.cell.count();
+        self.cell.metric().is_kept_by(w)
+            && self.are_kept_by(&self.action(w), shift, sign, &mut Failure::none())
     }
 }

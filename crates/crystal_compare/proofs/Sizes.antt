@@ -14,19 +14,6 @@ use Rattle.crystal_spec.specs.Matrices.{Matrix, Triple, image}
 use Rattle.crystal.specs.Bounds.{EntriesAtMost, CoordinatesAtMost}
 use Rattle.crystal.proofs.Ranges.{grown, at_most_image, coordinates_grown, image_fits}
 
-pub entries_grown : {m n : ℕ} {a : Matrix} → m ≤ n → EntriesAtMost m a → EntriesAtMost n a
-entries_grown p h = record {
-  a11 = grown p h.a11;
-  a12 = grown p h.a12;
-  a13 = grown p h.a13;
-  a21 = grown p h.a21;
-  a22 = grown p h.a22;
-  a23 = grown p h.a23;
-  a31 = grown p h.a31;
-  a32 = grown p h.a32;
-  a33 = grown p h.a33;
-}
-
 -- the image of a moment
 pub moment_image : (l : Matrix) (m : Triple) → EntriesAtMost 1 l → CoordinatesAtMost (2 * 10 ^ 27) m → CoordinatesAtMost (10 ^ 28) (image l m)
 moment_image l m h k = coordinates_grown {v = image l m} (lit≤ tt) (at_most_image 1 (2 * 10 ^ 27) l m h k)

@@ -7,7 +7,7 @@ use Rattle.crystal_spec.specs.Matrices.{Matrix}
 use Rattle.crystal_spec.specs.Crystals.{Site, Structure}
 use Rattle.crystal.specs.Bounds.{EntriesAtMost, CoordinatesAtMost}
 use Rattle.prim_cell.specs.Sizes.{HasSizesOfRead}
-use Rattle.crystal_compare.proofs.Sizes.{entries_grown}
+use Rattle.crystal.proofs.Ranges.{entries_grown}
 
 pub sizes_of_one : (c : Structure) (name : List ℕ) (s : ℤ) (g : Matrix) (n k : ℕ) (kind : MomentKind) (a : Site) → c ≡ record { names = name ∷ []; scale = s; metric = g; n = n; k = k; kind = kind; sites = a ∷ [] } → s ≤ℤ pos 128 → EntriesAtMost 128 g → CoordinatesAtMost (10 ^ 9) a.moment → HasSizesOfRead c
 sizes_of_one c name s g n k kind a e h metric moment = subst HasSizesOfRead (sym e) (record { scale = omega (arith, ints, h); metric = entries_grown (lit≤ tt) metric; moments = by })

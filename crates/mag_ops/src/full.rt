@@ -7,6 +7,7 @@ ghost use Rattle.crystal_spec.specs.Matrices.{Matrix, Triple};
 ghost use Rattle.crystal_spec.specs.Operations.{Operation, IsWithinCell, sign_factor};
 ghost use Rattle.crystal.specs.Views.{site_of, triple_of};
 ghost use Rattle.crystal.specs.Bounds.{EntriesAtMost};
+ghost use Rattle.crystal.specs.Actions.{ActsOn};
 ghost use Rattle.lattice_iso.specs.Isometries.{ListsIsometries};
 ghost use Rattle.basis_spec.specs.Translations.{of_species, IsRarest};
 ghost use Rattle.basis_spec.specs.Carrying.{KeepsAny, IsListed};
@@ -14,10 +15,8 @@ ghost use Rattle.mag_ops.specs.Candidates.{IsKeptAs, IsKeptBy, IsOnto};
 ghost use Rattle.mag_ops.specs.Groups.{ListsGroup, IsWanted, signs};
 
 use crate::rarest::rarest;
-use crystal::{Atom, Places, Sign, Steps, translation_onto};
-use exact_num::Int;
+use crystal::{Action, Atom, Failure, Places, Sign, Steps};
 use lattice_iso::{Isos, isometries};
-use matrix3::Mat3;
 use op_group::{Op, OpList};
 use prim_cell::Primitive;
 use std::alloc::{AllocError, Global};
@@ -26,20 +25,26 @@ use std::sync::ledger::Ledger;
 /// Puts the operation into the list, where it keeps the crystal.
 fn add_kept<L: Ledger>(
     places: &Places,
-    op: Op,
+    action: &Action,
+    shift: [u32; 3],
+    sign: Sign,
     found: &mut OpList,
+    last: &mut Failure,
     steps: &mut Steps<L>,
 ) -> Result<(), AllocError>
-    requires small { EntriesAtMost 1 op.w }
-    requires places_n { IsWithinCell places.now.n (triple_of op.shift) }
+    requires small { EntriesAtMost 1 action.now.matrix }
+    requires acts { ActsOn places.now action.now }
+    requires places_n { IsWithinCell places.now.n (triple_of shift) }
     requires found_n { found.old.n ≡ places.now.n }
     ensures n { found.new.n ≡ places.now.n }
-    ensures members { OnOk result ((o : Operation) → IsMember o found.new.operations ↔ (IsKeptAs places.now op.w (triple_of op.shift) op.sign o ⊎ IsMember o found.old.operations)) }
+    ensures members { OnOk result ((o : Operation) → IsMember o found.new.operations ↔ (IsKeptAs places.now action.now.matrix (triple_of shift) sign o ⊎ IsMember o found.old.operations)) }
     ensures ticks { steps.new ≡ steps.old + 1 }
     ensures one_more { OnOk result (length found.new.operations ≤ length found.old.operations + 1) }
 {
-    if places.keeps_map(&op.w, op.shift, op.sign, steps) {
-        found.insert(op)?;
+    steps.tick();
+    if places.are_kept_by(action, shift, sign, last) {
+        let w = action.matrix();
+        found.insert(Op { w, shift, sign })?;
     }
     Ok(())
 }
@@ -49,30 +54,27 @@ fn add_kept<L: Ledger>(
 fn add_kept_onto<L: Ledger>(
     places: &Places,
     time: bool,
-    w: &Mat3<Int>,
+    action: &Action,
     from: &Atom,
     onto: &Atom,
     found: &mut OpList,
+    last: &mut Failure,
     steps: &mut Steps<L>,
 ) -> Result<(), AllocError>
-    requires small { EntriesAtMost 1 w.now }
+    requires small { EntriesAtMost 1 action.now.matrix }
+    requires acts { ActsOn places.now action.now }
     requires found_n { found.old.n ≡ places.now.n }
     ensures n { found.new.n ≡ places.now.n }
-    ensures members { OnOk result ((o : Operation) → IsMember o found.new.operations ↔ (IsOnto places.now time w.now (site_of from.now) (site_of onto.now) o ⊎ IsMember o found.old.operations)) }
+    ensures members { OnOk result ((o : Operation) → IsMember o found.new.operations ↔ (IsOnto places.now time action.now.matrix (site_of from.now) (site_of onto.now) o ⊎ IsMember o found.old.operations)) }
     ensures ticks_at_most { steps.new ≤ steps.old + signs time }
     ensures ticks_at_least { OnOk result (length found.new.operations + steps.old ≤ length found.old.operations + steps.new) }
 {
-    let cell = places.cell();
-    let _form = cell.count();
-    let w = *w;
-    let shift = translation_onto(&w, from.place, onto.place, cell.n());
-    let sign = Sign::Same;
-    add_kept(places, Op { w, shift, sign }, found, steps)?;
+    let shift = action.translation_onto(from.place, onto.place);
+    add_kept(places, action, shift, Sign::Same, found, last, steps)?;
     if !time {
         return Ok(());
     }
-    let sign = Sign::Reversed;
-    add_kept(places, Op { w, shift, sign }, found, steps)?;
+    add_kept(places, action, shift, Sign::Reversed, found, last, steps)?;
     Ok(())
 }
 
@@ -81,16 +83,18 @@ fn add_kept_onto<L: Ledger>(
 fn add_kept_by<L: Ledger>(
     places: &Places,
     time: bool,
-    w: &Mat3<Int>,
+    action: &Action,
     from: &Atom,
     found: &mut OpList,
+    last: &mut Failure,
     steps: &mut Steps<L>,
 ) -> Result<(), AllocError>
-    requires small { EntriesAtMost 1 w.now }
+    requires small { EntriesAtMost 1 action.now.matrix }
+    requires acts { ActsOn places.now action.now }
     requires of_cell { IsMember (site_of from.now) places.now.sites }
     requires found_n { found.old.n ≡ places.now.n }
     ensures n { found.new.n ≡ places.now.n }
-    ensures members { OnOk result ((o : Operation) → IsMember o found.new.operations ↔ (IsKeptBy places.now time w.now o ⊎ IsMember o found.old.operations)) }
+    ensures members { OnOk result ((o : Operation) → IsMember o found.new.operations ↔ (IsKeptBy places.now time action.now.matrix o ⊎ IsMember o found.old.operations)) }
     ensures ticks_at_most { steps.new ≤ steps.old + signs time * length (of_species from.now.species places.now.sites) }
     ensures ticks_at_least { OnOk result (length found.new.operations + steps.old ≤ length found.old.operations + steps.new) }
 {
@@ -98,7 +102,7 @@ fn add_kept_by<L: Ledger>(
     for i in 0..cell.count() {
         let onto = cell.atom(i);
         if onto.species == from.species {
-            add_kept_onto(places, time, w, from, onto, found, steps)?;
+            add_kept_onto(places, time, action, from, onto, found, last, steps)?;
         }
     }
     Ok(())
@@ -122,8 +126,10 @@ fn all_kept<L: Ledger>(
     let cell = places.cell();
     let from = rarest(cell);
     let mut found = OpList::new(alloc, cell.n());
+    let mut last = Failure::none();
     for i in 0..matrices.count() {
-        add_kept_by(places, time, matrices.at(i), from, &mut found, steps)?;
+        let action = places.action(matrices.at(i));
+        add_kept_by(places, time, &action, from, &mut found, &mut last, steps)?;
     }
     let _count = found.count();
     Ok(found)

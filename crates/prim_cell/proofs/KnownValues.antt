@@ -1,6 +1,6 @@
 -- The definitions at a body-centred cube with n = 2, whose index is 2: Q is of the primitive basis (1, 0, -1/2), (0, 1, -1/2),
 -- (0, 0, 1/2) of the triangular basis.
-use Rattle.std.proofs.Common.{◌≡◌, ℤ, pos, negsuc, refl, arith, lit≤, ◌^◌}
+use Rattle.std.proofs.Common.{ℤ, pos, negsuc, refl, arith, lit≤, ◌^◌}
 use Rattle.std.proofs.lemmas.Int.{ints}
 use Rattle.ring.specs.Size.{AtMost}
 use Rattle.crystal_spec.specs.Matrices.{Matrix, identity}

@@ -24,25 +24,12 @@ use Rattle.lattice_spec.proofs.Cauchy.{reduced_positive, bb_positive}
 use Rattle.lattice_spec.proofs.Bounds.{IsInBox, box_of_column}
 use Rattle.crystal.specs.declared.limits.TheConstants.{MOST_ATOMS}
 use Rattle.crystal.specs.Bounds.{EntriesAtMost}
-use Rattle.crystal.proofs.Ranges.{grown, at_most_product, at_most_transposed}
+use Rattle.crystal.proofs.Ranges.{grown, entries_grown, at_most_product, at_most_transposed}
 use Rattle.basis_spec.specs.Metrics.{matrix_multiple, metric_in}
 
 -- the two ways to say it
 pub entries_of_each : (n m : ℕ) (a : Matrix) → n ≤ m → EachEntry (AtMost n) a → EntriesAtMost m a
 entries_of_each n m a le h = record {
-  a11 = grown le h.a11;
-  a12 = grown le h.a12;
-  a13 = grown le h.a13;
-  a21 = grown le h.a21;
-  a22 = grown le h.a22;
-  a23 = grown le h.a23;
-  a31 = grown le h.a31;
-  a32 = grown le h.a32;
-  a33 = grown le h.a33;
-}
-
-pub entries_grown : {m n : ℕ} {a : Matrix} → m ≤ n → EntriesAtMost m a → EntriesAtMost n a
-entries_grown le h = record {
   a11 = grown le h.a11;
   a12 = grown le h.a12;
   a13 = grown le h.a13;

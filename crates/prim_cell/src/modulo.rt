@@ -1,21 +1,11 @@
 // Positions modulo n.
 
-ghost use Rattle.std.specs.Prelude.{◌≡◌, ◌^◌, ◌<◌, ◌≤◌, pos, ◌+ℤ◌, ◌-ℤ◌};
+ghost use Rattle.std.specs.Prelude.{◌≡◌, ◌^◌, ◌<◌, ◌≤◌, pos, ◌-ℤ◌};
 ghost use Rattle.std.specs.Int.{int_rem_euclid};
-ghost use Rattle.crystal_spec.specs.Matrices.{sum_of, difference};
+ghost use Rattle.crystal_spec.specs.Matrices.{difference};
 ghost use Rattle.crystal_spec.specs.Operations.{IsWithinCell};
 ghost use Rattle.crystal.specs.Views.{triple_of};
 ghost use Rattle.basis_spec.specs.Positions.{residue};
-
-/// The sum of two coordinates, modulo n.
-fn sum_modulo(a: u32, b: u32, n: u32) -> u32
-    requires a { a < n }
-    requires b { b < n }
-    requires n { n ≤ 10 ^ 6 }
-    ensures { pos result ≡ int_rem_euclid (pos a +ℤ pos b) (pos n) }
-{
-    (a + b) % n
-}
 
 /// The difference of two coordinates, modulo n.
 fn difference_modulo(a: u32, b: u32, n: u32) -> u32
@@ -25,20 +15,6 @@ fn difference_modulo(a: u32, b: u32, n: u32) -> u32
     ensures { pos result ≡ int_rem_euclid (pos a -ℤ pos b) (pos n) }
 {
     (a + (n - b)) % n
-}
-
-/// The position to which a translation takes a position, modulo n.
-pub(crate) fn moved(place: [u32; 3], shift: [u32; 3], n: u32) -> [u32; 3]
-    requires place { IsWithinCell n (triple_of place) }
-    requires shift { IsWithinCell n (triple_of shift) }
-    requires n { n ≤ 10 ^ 6 }
-    ensures { triple_of result ≡ residue n (sum_of (triple_of place) (triple_of shift)) }
-{
-    [
-        sum_modulo(place[0], shift[0], n),
-        sum_modulo(place[1], shift[1], n),
-        sum_modulo(place[2], shift[2], n),
-    ]
 }
 
 /// The translation that takes one position to another, modulo n.

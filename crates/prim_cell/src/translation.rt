@@ -1,16 +1,15 @@
 // The pure translations.
 
-ghost use Rattle.std.specs.Prelude.{◌≡◌, ◌↔◌, ◌<◌, ◌⊎◌, length, pos, IfOk, OnOk, IsTrue};
+ghost use Rattle.std.specs.Prelude.{◌≡◌, ◌↔◌, ◌<◌, ◌⊎◌, length, IfOk, OnOk};
 ghost use Rattle.crystal_spec.specs.Increasing.{IsMember};
 ghost use Rattle.crystal_spec.specs.Matrices.{identity};
-ghost use Rattle.crystal_spec.specs.Operations.{Operation, IsWithinCell};
-ghost use Rattle.crystal.specs.Views.{site_of, triple_of};
-ghost use Rattle.crystal.specs.Carrying.{HasImage, HaveImages};
-ghost use Rattle.basis_spec.specs.Translations.{IsTranslation, ListsPureTranslations};
+ghost use Rattle.crystal_spec.specs.Operations.{Operation};
+ghost use Rattle.crystal.specs.Actions.{ActsOn};
+ghost use Rattle.basis_spec.specs.Translations.{ListsPureTranslations};
 ghost use Rattle.prim_cell.specs.Candidates.{IsOnto};
 
-use crate::modulo::{between, moved};
-use crystal::{Atom, Cell, Places, Sign};
+use crate::modulo::between;
+use crystal::{Action, Cell, Failure, Places, Sign};
 use exact_num::Int;
 use matrix3::Mat3;
 use op_group::{Op, OpList};
@@ -44,50 +43,6 @@ fn rarest(cell: &Cell) -> usize
     rarest
 }
 
-/// Whether two atoms have one species and one moment.
-fn is_alike(a: &Atom, b: &Atom) -> bool
-    ensures { IsTrue result ↔ ((a.now.species ≡ b.now.species) × (a.now.moment ≡ b.now.moment)) }
-{
-    a.species == b.species && a.moment == b.moment
-}
-
-/// Whether the translation carries an atom to an atom of its species with its moment.
-fn has_image(places: &Places, shift: [u32; 3], atom: &Atom) -> bool
-    requires shift { IsWithinCell places.now.n (triple_of shift) }
-    requires place { IsWithinCell places.now.n (triple_of atom.now.place) }
-    ensures { IsTrue result ↔ HasImage places.now identity (triple_of shift) identity (site_of atom.now) }
-{
-    let cell = places.cell();
-    let _form = cell.count();
-    match places.occupant(moved(atom.place, shift, cell.n())) {
-        Some(i) => is_alike(cell.atom(i), atom),
-        None => false,
-    }
-}
-
-/// Whether it does so for each atom of the cell. Ends at the first atom for which it doesn't.
-fn have_images(places: &Places, shift: [u32; 3]) -> bool
-    requires { IsWithinCell places.now.n (triple_of shift) }
-    ensures { IsTrue result ↔ HaveImages places.now identity (triple_of shift) identity places.now.sites }
-{
-    let cell = places.cell();
-    for i in 0..cell.count() {
-        if !has_image(places, shift, cell.atom(i)) {
-            return false;
-        }
-    }
-    true
-}
-
-/// Whether the translation keeps the crystal.
-fn is_translation(places: &Places, shift: [u32; 3]) -> bool
-    requires { IsWithinCell places.now.n (triple_of shift) }
-    ensures { IsTrue result ↔ IsTranslation places.now (triple_of shift) }
-{
-    let _form = places.cell().count();
-    have_images(places, shift)
-}
-
 /// The matrix of a translation.
 fn identity() -> Mat3<Int>
     ensures { result ≡ identity }
@@ -108,7 +63,16 @@ fn identity() -> Mat3<Int>
 }
 
 /// Puts the translation that carries one atom onto another of its species into the list, where it keeps the crystal.
-fn add_onto(places: &Places, from: usize, onto: usize, found: &mut OpList) -> Result<(), AllocError>
+fn add_onto(
+    places: &Places,
+    action: &Action,
+    from: usize,
+    onto: usize,
+    found: &mut OpList,
+    last: &mut Failure,
+) -> Result<(), AllocError>
+    requires identity { action.now.matrix ≡ identity }
+    requires acts { ActsOn places.now action.now }
     requires from { from < length places.now.sites }
     requires onto { onto < length places.now.sites }
     requires n { found.old.n ≡ places.now.n }
@@ -122,10 +86,10 @@ fn add_onto(places: &Places, from: usize, onto: usize, found: &mut OpList) -> Re
     if atom.species != first.species {
         return Ok(());
     }
-    let w = identity();
     let shift = between(first.place, atom.place, cell.n());
     let sign = Sign::Same;
-    if is_translation(places, shift) {
+    if places.are_kept_by(action, shift, sign, last) {
+        let w = action.matrix();
         found.insert(Op { w, shift, sign })?;
     }
     Ok(())
@@ -142,9 +106,11 @@ pub fn pure_shifts(alloc: Global, places: &Places) -> Result<OpList, AllocError>
 {
     let cell = places.cell();
     let from = rarest(cell);
+    let action = places.action(&identity());
     let mut found = OpList::new(alloc, cell.n());
+    let mut last = Failure::none();
     for onto in 0..cell.count() {
-        add_onto(places, from, onto, &mut found)?;
+        add_onto(places, &action, from, onto, &mut found, &mut last)?;
     }
     let _first = cell.atom(from);
     let _count = found.count();

@@ -4,15 +4,19 @@ use Rattle.crystal.specs.Carrying.{HaveImages}
 use Rattle.crystal.proofs.ImageLemmas.{drop_at, member_at, image_member}
 use Rattle.crystal.proofs.carrying.have_images.Goals as goal
 
+-- the map fails as the last one did
+pub returns-then-fails_alike : goal.returns-then-fails_alike
+returns-then-fails_alike c = ((λ t. absurd (cc t)), (λ h. absurd (c.fails_alike.ensures c.if-fails_alike.true h)))
+
 pub returns-then-not-has_image : goal.returns-then-not-has_image
 returns-then-not-has_image c =
     let x = site_of c.atom.result.now in
-    let image = λ (h : HaveImages c.args.cell.now c.args.w.now (triple_of c.args.shift) c.args.moments.now c.args.cell.now.sites).
-    image_member c.args.cell.now c.args.w.now (triple_of c.args.shift) c.args.moments.now c.args.cell.now.sites x h (member_at c.args.cell.now.sites c.loop-i.i x c.atom.ensures.value) in
+    let image = λ (h : HaveImages c.args.cell.now c.args.action.now.matrix (triple_of c.args.shift) c.args.moments.now c.args.cell.now.sites).
+    image_member c.args.cell.now c.args.action.now.matrix (triple_of c.args.shift) c.args.moments.now c.args.cell.now.sites x h (member_at c.args.cell.now.sites c.loop-atom.atom x c.atom.ensures.value) in
     ((λ t. absurd (cc t)), (λ h. let yes : c.has_image.result ≡ true = c.has_image.ensures.1 (image h) in sym c.if-not-has_image.true ∙ yes))
 
-pub loop-i-preserved : goal.loop-i-preserved
-loop-i-preserved c h =
+pub loop-atom-preserved : goal.loop-atom-preserved
+loop-atom-preserved c h =
     let x = site_of c.atom.result.now in
-    c.loop-i.invariant (subst (HaveImages c.args.cell.now c.args.w.now (triple_of c.args.shift) c.args.moments.now) (sym (drop_at c.args.cell.now.sites c.loop-i.i x c.atom.ensures.value))
+    c.loop-atom.invariant (subst (HaveImages c.args.cell.now c.args.action.now.matrix (triple_of c.args.shift) c.args.moments.now) (sym (drop_at c.args.cell.now.sites c.loop-atom.atom x c.atom.ensures.value))
     (c.has_image.ensures.0 c.if-not-has_image.false, h))

@@ -4,6 +4,6 @@ use Rattle.crystal.specs.Carrying.{HaveImages}
 use Rattle.crystal.proofs.carrying.have_images.Given as goal
 
 -- where the rest have images, all have
-abbrev pub invariant-loop-i : goal.invariant-loop-i
-invariant-loop-i l =
-    HaveImages l.cell l.w (triple_of l.shift) l.moments (drop l.i l.cell.sites) → HaveImages l.cell l.w (triple_of l.shift) l.moments l.cell.sites
+abbrev pub invariant-loop-atom : goal.invariant-loop-atom
+invariant-loop-atom l =
+    HaveImages l.cell l.action.matrix (triple_of l.shift) l.moments (drop l.atom l.cell.sites) → HaveImages l.cell l.action.matrix (triple_of l.shift) l.moments l.cell.sites

@@ -1,7 +1,7 @@
 use Rattle.std.proofs.Common.{subst, sym, lit≤, ◌*◌, ◌+◌, ◌^◌}
 use Rattle.crystal.specs.Bounds.{EntriesAtMost}
 use Rattle.crystal.proofs.Ranges.{product_fits, at_most_product, at_most_transposed}
-use Rattle.crystal_compare.proofs.Sizes.{entries_grown}
+use Rattle.crystal.proofs.Ranges.{entries_grown}
 use Rattle.crystal_compare.proofs.matrices.metric_in.Goals as goal
 
 pub times-requires-clause-fits : goal.times-requires-clause-fits

@@ -35,8 +35,8 @@ loop-i-preserved g c =
           let e = w.in_ok-add_kept_onto.ensures in
           record {
             n = ap (λ (l : OperationList). l.n) w.found-is ∙ e.n;
-            members = λ o. subst (λ (l : OperationList). IsMember o l.operations ↔ (IsFromAtoms s c.args.time c.args.w.now from (c.loop-i.i + 1) o ⊎ IsMember o c.args.found.now.operations)) (sym w.found-is)
-                (atoms_more s c.args.time c.args.w.now from c.loop-i.i onto o _ _ _ at same (h.members o) (e.members o));
+            members = λ o. subst (λ (l : OperationList). IsMember o l.operations ↔ (IsFromAtoms s c.args.time c.args.action.now.matrix from (c.loop-i.i + 1) o ⊎ IsMember o c.args.found.now.operations)) (sym w.found-is)
+                (atoms_more s c.args.time c.args.action.now.matrix from c.loop-i.i onto o _ _ _ at same (h.members o) (e.members o));
             at_most = subst (λ (k : ℕ). k + signs c.args.time * length (of_species from.species (drop (c.loop-i.i + 1) s.sites)) ≤ c.args.steps.now + signs c.args.time * length (of_species from.species s.sites)) (sym w.steps-is)
                 (tested_one c.args.time c.args.steps.now _ c.loop-i.steps w.add_kept_onto.new.steps _ _ (of_species_at from.species s.sites c.loop-i.i onto at same) h.at_most e.ticks_at_most);
             at_least = subst (λ (l : OperationList). length l.operations + c.args.steps.now ≤ length c.args.found.now.operations + c.if-onto-from.steps) (sym w.found-is)
@@ -47,8 +47,8 @@ loop-i-preserved g c =
           let other : onto.species ≡ from.species → ⊥ = search rules in
           record {
             n = ap (λ (l : OperationList). l.n) w.found-is ∙ h.n;
-            members = λ o. subst (λ (l : OperationList). IsMember o l.operations ↔ (IsFromAtoms s c.args.time c.args.w.now from (c.loop-i.i + 1) o ⊎ IsMember o c.args.found.now.operations)) (sym w.found-is)
-                (atoms_same s c.args.time c.args.w.now from c.loop-i.i onto o _ _ at other (h.members o));
+            members = λ o. subst (λ (l : OperationList). IsMember o l.operations ↔ (IsFromAtoms s c.args.time c.args.action.now.matrix from (c.loop-i.i + 1) o ⊎ IsMember o c.args.found.now.operations)) (sym w.found-is)
+                (atoms_same s c.args.time c.args.action.now.matrix from c.loop-i.i onto o _ _ at other (h.members o));
             at_most = tested_none c.args.time c.args.steps.now _ c.loop-i.steps c.if-onto-from.steps _ _ w.steps-is (of_another_at from.species s.sites c.loop-i.i onto at other) h.at_most;
             at_least = subst (λ (l : OperationList). length l.operations + c.args.steps.now ≤ length c.args.found.now.operations + c.if-onto-from.steps) (sym w.found-is)
                 (subst (λ (k : ℕ). length c.loop-i.found.operations + c.args.steps.now ≤ length c.args.found.now.operations + k) (sym w.steps-is) h.at_least);
@@ -61,5 +61,5 @@ returns-clause-members g c o =
     let from = site_of c.args.from.now in
     let all : c.count-i-end.result ≡ length s.sites = c.count-i-end.ensures.value ∙ ap (λ (t : Structure). length t.sites) c.cell-cell.ensures in
     let ended : c.loop-i.i ≡ length s.sites = omega arith in
-    atoms_all s c.args.time c.args.w.now from o _ _ c.requires.of_cell
-    (subst (λ (k : ℕ). IsMember o c.loop-i.found.operations ↔ (IsFromAtoms s c.args.time c.args.w.now from k o ⊎ IsMember o c.args.found.now.operations)) ended (c.loop-i.invariant.members o))
+    atoms_all s c.args.time c.args.action.now.matrix from o _ _ c.requires.of_cell
+    (subst (λ (k : ℕ). IsMember o c.loop-i.found.operations ↔ (IsFromAtoms s c.args.time c.args.action.now.matrix from k o ⊎ IsMember o c.args.found.now.operations)) ended (c.loop-i.invariant.members o))

@@ -13,7 +13,7 @@ use Rattle.mag_ops.proofs.full.add_kept_by.Given as goal
 abbrev pub invariant-loop-i : goal.invariant-loop-i
 invariant-loop-i g l = record {
   n : l.found.n ≡ l.places.n;
-  members : (o : Operation) → IsMember o l.found.operations ↔ (IsFromAtoms l.places l.time l.w (site_of l.from) l.i o ⊎ IsMember o l.initial.found.operations);
+  members : (o : Operation) → IsMember o l.found.operations ↔ (IsFromAtoms l.places l.time l.action.matrix (site_of l.from) l.i o ⊎ IsMember o l.initial.found.operations);
   at_most : l.steps + signs l.time * length (of_species l.from.species (drop l.i l.places.sites)) ≤ l.initial.steps + signs l.time * length (of_species l.from.species l.places.sites);
   at_least : length l.found.operations + l.initial.steps ≤ length l.initial.found.operations + l.steps;
 }

@@ -1,13 +1,18 @@
-use Rattle.std.proofs.Common.{◌≡◌, ℕ, length, subst, ap, ◌∙◌, arith}
+use Rattle.std.proofs.Common.{◌≡◌, ℕ, length, subst, ap, sym, ◌∙◌, arith}
 use Rattle.std.specs.Prelude.{◌↔◌, slice_get, Some}
 use Rattle.crystal_spec.specs.Increasing.{IsMember}
-use Rattle.crystal_spec.specs.Crystals.{Structure}
+use Rattle.crystal_spec.specs.Crystals.{Structure, KeepsMetric}
 use Rattle.crystal_spec.specs.Operations.{Operation}
 use Rattle.crystal.specs.Views.{site_of}
 use Rattle.crystal.specs.Cells.{IsCellWithinLimits}
 use Rattle.prim_cell.specs.Candidates.{IsFromAtoms}
 use Rattle.prim_cell.proofs.Found.{found_more, found_all}
+use Rattle.basis_spec.proofs.MatrixLaws.{metric_in-identity}
 use Rattle.prim_cell.proofs.translation.pure_shifts.Goals as goal
+
+-- the identity is an isometry
+pub action-action-requires-clause-isometry : goal.action-action-requires-clause-isometry
+action-action-requires-clause-isometry c = subst (KeepsMetric c.args.places.now.metric) (sym c.identity.ensures) (metric_in-identity c.args.places.now.metric)
 
 pub loop-onto-preserved : goal.loop-onto-preserved
 loop-onto-preserved c = record {

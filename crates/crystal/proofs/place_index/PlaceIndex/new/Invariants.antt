@@ -1,0 +1,10 @@
+use Rattle.std.proofs.Common.{take, map}
+use Rattle.crystal_spec.specs.Crystals.{Site}
+use Rattle.crystal_spec.specs.Increasing.{IsMember}
+use Rattle.crystal.specs.Views.{site_of}
+use Rattle.crystal.specs.Covering.{IsListed}
+use Rattle.crystal.proofs.place_index.PlaceIndex.new.Given as goal
+
+-- the positions so far are listed
+abbrev pub invariant-loop-atom : goal.invariant-loop-atom
+invariant-loop-atom l = (a : Site) → IsMember a (map site_of (take l.atom-index l.atoms)) → IsListed l.places.keys a
