@@ -148,7 +148,9 @@ fn put(alloc: Global, cell: &mut Cell, atom: Atom) -> Option<()>
     if atom.species as usize >= cell.names() || cell.count() >= MOST_ATOMS || !cell.kind().vector {
         return None;
     }
-    let index = cell.index(alloc).ok()?;
+    let Ok(index) = cell.index(alloc) else {
+        return None;
+    };
     if cell.occupant(&index, atom.place).is_some() {
         return None;
     }
