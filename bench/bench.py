@@ -1,10 +1,11 @@
 #!/usr/bin/env python3
-"""Times `magsym symmetry` on the examples and on generated cells, and Spglib on the same cells where it is installed.
+"""Times `magsym symmetry` on the examples, on generated cells and on hostile ones, and Spglib beside it where it is installed.
 
 Run it by hand, after the gate, on a quiet machine: bench/bench.py [--runs N] [--only WORD] [--limit SECONDS]
 A time of magsym is the best of N runs of the whole program: it starts, reads the cell, and writes the report to a file.
 That of Spglib is the time of one call of get_magnetic_symmetry, at its default tolerances, in a Python that has loaded it;
-a call that passes the limit is stopped. The last column is the time of magsym divided by that of Spglib.
+a call that passes the limit is stopped. The last column says how many times that of magsym the time of Spglib is. The hostile
+cells, on which most maps fail late, are those of bench/hostile.py.
 """
 import argparse
 import pathlib
@@ -13,6 +14,8 @@ import sys
 import tempfile
 import time
 from fractions import Fraction
+
+import hostile
 
 TOP = pathlib.Path(__file__).resolve().parent.parent
 PROGRAM = TOP / "crates" / "magsym" / "out" / "magsym"
@@ -67,6 +70,7 @@ def cells():
     yield "hexagonal, 512 atoms", generated("64 64 100 0 0 -32", (8, 8, 8), no_moment)
     yield "hexagonal, 512 atoms, opposite layers", generated("64 64 100 0 0 -32", (8, 8, 8), layers)
     yield "flat and skew, 512 atoms", generated("64 64000064 64 0 0 64000", (8, 8, 8), no_moment)
+    yield from hostile.named()
 
 
 def operations_of(text):
@@ -144,15 +148,15 @@ def main():
         sys.exit("bench: the program is not built; run bin/magsym once")
     version = "is not installed" if spglib is None else spglib.__version__
     print(f"seconds: magsym, best of {options.runs}; Spglib {version}, one call")
-    print(f"{'cell':40} {'magsym':>10} {'operations':>11} {'Spglib':>10} {'operations':>11} {'ratio':>8}")
+    print(f"{'cell':44} {'magsym':>10} {'operations':>11} {'Spglib':>10} {'operations':>11} {'ratio':>8}")
     for name, text in cells():
         if options.only not in name:
             continue
         own, own_count = best(options.runs, text)
-        line = f"{name:40} {shown(own, own_count)}"
+        line = f"{name:44} {shown(own, own_count)}"
         other = None if spglib is None else found_by_spglib(text, options.limit)
         if other is not None:
-            line += f" {shown(*other)} {own / other[0]:8.4f}"
+            line += f" {shown(*other)} {other[0] / own:8.1f}"
         elif spglib is not None:
             line += f"  over {options.limit:.0f} seconds"
         print(line, flush=True)

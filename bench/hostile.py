@@ -1,13 +1,15 @@
 #!/usr/bin/env python3
 """Cells on which most maps fail late, and a search among generated ones for the slowest.
 
-Run it by hand, after the gate, on a quiet machine: bench/hostile.py [--cells N] [--atoms N] [--seed N] [--program FILE]
+Run it by hand, after the gate, on a quiet machine: bench/hostile.py [--cells N] [--atoms N] [--seed N] [--jobs N] [--program FILE]
 It makes N cells of up to so many atoms: rows, grids, pairs, stars, coloured grids and chosen places of a grid, some with defects,
 times `magsym symmetry` on each, as a whole process, and prints the slowest. A cell is told by its seed: --show SEED prints it.
 The named cells below are timed by bench/bench.py.
 """
 import argparse
+import functools
 import math
+import multiprocessing
 import pathlib
 import random
 import subprocess
@@ -223,11 +225,19 @@ def seconds_of(program, text):
     return time.perf_counter() - start, done.returncode
 
 
+def tried(program, most, seed):
+    """The time of one generated cell, its seed, its atoms, and whether it is refused."""
+    text = generated(seed, most)
+    seconds, status = seconds_of(program, text)
+    return seconds, seed, text.count("\natom"), status != 0
+
+
 def main():
     parser = argparse.ArgumentParser(description="searches generated cells for the slowest")
     parser.add_argument("--cells", type=int, default=10000)
     parser.add_argument("--atoms", type=int, default=512)
     parser.add_argument("--seed", type=int, default=0, help="the seed of the first cell; each next cell has the next one")
+    parser.add_argument("--jobs", type=int, default=1, help="how many cells are tried at once; the slowest are timed again alone")
     parser.add_argument("--program", default=str(PROGRAM))
     parser.add_argument("--show", type=int, help="print the cell of this seed")
     options = parser.parse_args()
@@ -236,15 +246,13 @@ def main():
         return None
     if not pathlib.Path(options.program).exists():
         sys.exit("hostile: the program is not built; run bin/magsym once")
-    slowest = []
-    refused = 0
-    for seed in range(options.seed, options.seed + options.cells):
-        text = generated(seed, options.atoms)
-        seconds, status = seconds_of(options.program, text)
-        refused += status != 0
-        slowest = sorted([*slowest, (seconds, seed, text.count("atom"))], reverse=True)[:10]
+    try_seed = functools.partial(tried, options.program, options.atoms)
+    with multiprocessing.Pool(options.jobs) as pool:
+        results = pool.map(try_seed, range(options.seed, options.seed + options.cells), chunksize=50)
+    refused = sum(result[3] for result in results)
+    slowest = sorted(results, reverse=True)[:10]
     print(f"{options.cells} cells of up to {options.atoms} atoms, {refused} refused; the slowest:")
-    for seconds, seed, atoms in slowest:
+    for seconds, seed, atoms, _ in slowest:
         best = min(seconds_of(options.program, generated(seed, options.atoms))[0] for _ in range(3))
         print(f"  seed {seed}, {atoms} atoms: {seconds:.4f} s, best of three more {best:.4f} s")
     return None
