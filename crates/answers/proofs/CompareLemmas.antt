@@ -1,15 +1,14 @@
 -- The report of all maps between two crystals.
-use Rattle.std.proofs.Common.{◌≡◌, refl, sym, ap, subst, ◌∙◌, ℕ, Bool, true, false, List, [], ◌∷◌, length, inl}
+use Rattle.std.proofs.Common.{◌≡◌, refl, sym, subst, ℕ, Bool, true, false, List, [], ◌∷◌, length, inl}
 use Rattle.std.specs.Prelude.{◌↔◌}
 use Rattle.crystal_spec.specs.Crystals.{Structure}
-use Rattle.crystal_spec.specs.Increasing.{IsMember}
 use Rattle.crystal_spec.specs.Matrices.{Matrix}
 use Rattle.basis_spec.specs.Bases.{cell_in_basis}
 use Rattle.prim_cell.specs.Primitives.{PrimitiveCell}
 use Rattle.crystal_compare.specs.Maps.{AffineMap}
 use Rattle.crystal_compare.specs.Lists.{ListsMaps}
 use Rattle.compare_text.specs.ComparisonText.{comparison_text}
-use Rattle.compare_text.specs.Comparisons.{IsComparison, AreOneCrystal}
+use Rattle.compare_text.specs.Comparisons.{AreOneCrystal}
 use Rattle.answers.specs.CompareReports.{IsMapsReport}
 use Rattle.answers.specs.Findings.{IsReducedPrimitive}
 

@@ -1,16 +1,18 @@
 -- The maps of a table's rows, one after another, and what a search for them asks of a found group.
-use Rattle.std.proofs.Common.{◌≡◌, ℕ, zero, suc, ◌+◌, ℤ, Bool, true, List, [], ◌∷◌, ◌++◌, length, map, drop, refl, sym, ap, subst, ◌∙◌, arith, add-one, append_assoc}
+use Rattle.std.proofs.Common.{◌≡◌, ℕ, suc, ◌+◌, ℤ, Bool, true, List, [], ◌∷◌, ◌++◌, length, map, drop, refl, sym, ap, subst, ◌∙◌, arith, lit≤, append_assoc}
 use Rattle.std.specs.Prelude.{Some, None, Option, slice_get, IfOk, IfSome, IfNone}
 use Rattle.std.specs.declared.result.Result.{Result}
 use Rattle.std.specs.declared.result.Result.TheVariants.{Ok, Err}
 use Rattle.ring.specs.Size.{AtMost}
-use Rattle.matrix3.specs.Matrices.{EachEntry, vector_map}
+use Rattle.matrix3.specs.Matrices.{vector_map}
+use Rattle.matrix3.proofs.FitsBySize.{entries_grown}
+use Rattle.lists.proofs.Walks.{drop_at}
 use Rattle.exact_num.specs.Meanings.{fraction_of}
 use Rattle.crystal_spec.specs.Matrices.{Matrix}
 use Rattle.crystal_spec.specs.Cells.{IsCell}
 use Rattle.crystal_spec.specs.Crystals.{Structure}
 use Rattle.crystal_spec.specs.Operations.{Operation, ListsAll}
-use Rattle.crystal.specs.Bounds.{EntriesAtMost}
+use Rattle.matrix3.specs.Bounds.{EntriesAtMost}
 use Rattle.lattice_spec.specs.Niggli.{IsNiggli}
 use Rattle.op_group.specs.Lists.{OperationList}
 use Rattle.prim_cell.specs.Primitives.{PrimitiveCell}
@@ -39,14 +41,9 @@ row_map n os group s (Err e) of_symbol found absent = tt
 
 -- ---- the rows in order
 
-drop_here : {X : Type 0} (xs : List X) (i : ℕ) (x : X) → slice_get xs i ≡ Some x → drop i xs ≡ x ∷ drop (i + 1) xs
-drop_here [] i x e = absurd cc
-drop_here (y ∷ xs) zero x e = ap (λ h. h ∷ xs) cc
-drop_here (y ∷ xs) (suc i) x e = rw (add-one (suc i)) (drop_here xs i x e ∙ rw (add-one i) refl)
-
 -- a map of the row number i, before those of the rows behind it
 pub row_before : (n : ℕ) (os : List Operation) (symbols : List HallSymbol) (i : ℕ) (s : HallSymbol) (m : Option Map) (later : List (Option Map)) → slice_get symbols i ≡ Some s → IsRowMap n os s m → AreRowMaps n os (drop (i + 1) symbols) later → AreRowMaps n os (drop i symbols) (m ∷ later)
-row_before n os symbols i s m later e first rest = subst (λ (list : List HallSymbol). AreRowMaps n os list (m ∷ later)) (sym (drop_here symbols i s e)) (first, rest)
+row_before n os symbols i s m later e first rest = subst (λ (list : List HallSymbol). AreRowMaps n os list (m ∷ later)) (sym (drop_at symbols i s e)) (first, rest)
 
 -- maps and one more, before others
 pub appended : {X : Type 0} (xs ys : List X) (x : X) (later : List X) → ys ≡ xs ++ x ∷ [] → xs ++ x ∷ later ≡ ys ++ later
@@ -66,27 +63,11 @@ one_map_a_row n os (row ∷ rows) (m ∷ maps) h = ap suc (one_map_a_row n os ro
 
 -- ---- what is asked of the found group
 
-wide : (z : ℤ) → AtMost 1 z → AtMost 150000000 z
-wide z h = record { size = omega (arith, h.size) }
-
-each_wide : (w : Matrix) → EntriesAtMost 1 w → EachEntry (AtMost 150000000) w
-each_wide w h = record {
-  a11 = wide _ h.a11;
-  a12 = wide _ h.a12;
-  a13 = wide _ h.a13;
-  a21 = wide _ h.a21;
-  a22 = wide _ h.a22;
-  a23 = wide _ h.a23;
-  a31 = wide _ h.a31;
-  a32 = wide _ h.a32;
-  a33 = wide _ h.a33;
-}
-
 -- the operations keep a metric tensor that meets the Niggli conditions, so their entries are -1, 0 and 1
 pub found_entries : (c : Structure) (p : PrimitiveCell) (list : OperationList) → IsCell p.cell → IsFound c true p list → HasEntriesAtMost 150000000 list.operations
 found_entries c p list cell found o m =
     let niggli : IsNiggli p.cell.metric = subst (λ (t : Structure). IsNiggli t.metric) (sym found.cell.cell) found.cell.niggli in
-    each_wide o.matrix (reduced_isometry_small p.cell.metric o.matrix niggli cell.symmetric ((found.group.exact o).0 m).keeps.metric)
+    entries_grown (lit≤ tt) (reduced_isometry_small p.cell.metric o.matrix niggli cell.symmetric ((found.group.exact o).0 m).keeps.metric)
 
 -- ---- the report
 

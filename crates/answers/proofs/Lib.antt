@@ -1,8 +1,8 @@
-pub mod CompareLemmas
-pub mod FillLemmas
-pub mod FoundLemmas
-pub mod IdentifyLemmas
-pub mod Listed
-pub mod OneReport
-pub mod SpelledSizes
-pub mod StandardLemmas
+mod CompareLemmas
+mod FillLemmas
+mod FoundLemmas
+mod IdentifyLemmas
+mod Listed
+mod OneReport
+mod SpelledSizes
+mod StandardLemmas

@@ -6,12 +6,13 @@ use Rattle.std.proofs.Common.{◌≡◌, ℕ, suc, ◌<◌, ℤ, pos, Bool, true
 use Rattle.std.specs.Prelude.{◌↔◌, slice_get}
 use Rattle.std.specs.declared.option.Option.{Option}
 use Rattle.std.proofs.lemmas.Option.{slice_get-get_or, slice_get_within}
+use Rattle.lists.specs.Increasing.{IsIncreasing, IsMember}
+use Rattle.lists.proofs.Increasing.{increasing_unique}
 use Rattle.crystal_spec.specs.Matrices.{Triple, Matrix, image}
 use Rattle.crystal_spec.specs.Crystals.{Site, Structure}
-use Rattle.crystal_spec.specs.Increasing.{IsMember, IsIncreasing}
 use Rattle.crystal_spec.specs.Operations.{Operation, compare_of, ListsAll}
 use Rattle.crystal_spec.specs.Cells.{IsCell}
-use Rattle.crystal_spec.proofs.Ordered.{compare_total, increasing_unique}
+use Rattle.crystal_spec.proofs.Ordered.{compare_total}
 use Rattle.basis_spec.specs.Translations.{ListsPureTranslations}
 use Rattle.basis_spec.specs.Bases.{cell_in_basis}
 use Rattle.basis_spec.proofs.Candidates.{same_natural}

@@ -4,7 +4,7 @@
 -- Our own; the group of a symbol is that of hall_text.
 use Rattle.std.specs.Prelude.{◌≡◌, ℕ, List}
 use Rattle.std.specs.declared.option.Option.TheVariants.{Some}
-use Rattle.crystal_spec.specs.Increasing.{IsIncreasing}
+use Rattle.lists.specs.Increasing.{IsIncreasing}
 use Rattle.crystal_spec.specs.Operations.{Operation, compare_of}
 use Rattle.operation_text.specs.OperationText.{operations_text}
 use Rattle.hall_symbol.specs.Symbols.{HallSymbol, generators}

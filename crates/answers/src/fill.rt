@@ -3,7 +3,7 @@
 ghost use Rattle.std.specs.Prelude.{◌≡◌, ◌↔◌, ◌<◌, ◌≤◌, ◌^◌, ◌*ℤ◌, suc, pos, length, true, IsTrue, IfOk};
 ghost use Rattle.ring.specs.Size.{AtMost};
 ghost use Rattle.crystal_spec.specs.Moments.{IsOfKind};
-ghost use Rattle.crystal.specs.Bounds.{CoordinatesAtMost};
+ghost use Rattle.matrix3.specs.Bounds.{CoordinatesAtMost};
 ghost use Rattle.moment_space.specs.Filled.{IsSiteAt};
 ghost use Rattle.command_words.specs.Fillings.{IsSmall, IsSmallComponent};
 ghost use Rattle.answers.specs.Answers.{IsFillAnswer};

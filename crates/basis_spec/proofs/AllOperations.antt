@@ -2,10 +2,10 @@
 -- cell, and maps with fractions add none.
 use Rattle.std.proofs.Common.{◌≡◌, Bool, true, false, List, ℕ, subst}
 use Rattle.std.specs.Prelude.{◌↔◌}
+use Rattle.lists.specs.Increasing.{IsIncreasing, IsMember}
 use Rattle.crystal_spec.specs.declared.Sign.{Sign}
 use Rattle.crystal_spec.specs.Matrices.{Triple, Matrix}
 use Rattle.crystal_spec.specs.Crystals.{Structure}
-use Rattle.crystal_spec.specs.Increasing.{IsMember, IsIncreasing}
 use Rattle.crystal_spec.specs.Operations.{Operation, compare_of, sign_factor, ListsAll, ListsAllSame}
 use Rattle.crystal_spec.specs.Cells.{IsCell}
 use Rattle.crystal_spec.proofs.Images.{occupied_itself}

@@ -7,10 +7,10 @@ use Rattle.std.proofs.Common.{◌≡◌, ℕ, ◌<◌, ℤ, pos, negsuc, ◌+ℤ
 use Rattle.std.proofs.lemmas.Int.{ints}
 use Rattle.ring.specs.Ring.{var, con, ◌:+◌, ◌:*◌}
 use Rattle.ring.proofs.IntOrder.{≤ℤ_antisymm}
+use Rattle.lists.specs.Increasing.{IsMember}
 use Rattle.crystal_spec.specs.Matrices.{Triple, Matrix, product, determinant, identity, difference, image, multiple, sum_of}
 use Rattle.crystal_spec.specs.Crystals.{Site, Structure}
-use Rattle.crystal_spec.specs.Increasing.{IsMember}
-use Rattle.basis_spec.specs.Positions.{residue, triple}
+use Rattle.positions.specs.Positions.{modulo, triple}
 use Rattle.crystal_spec.specs.Operations.{Operation, IsSymmetryOperation}
 use Rattle.basis_spec.specs.Translations.{IsPureTranslation, pure_translation}
 use Rattle.basis_spec.specs.StepBases.{IsLattice, IsStepBasis, IsSteps}
@@ -22,7 +22,7 @@ use Rattle.basis_spec.proofs.StepEntries.{back_once, found_is, index_found}
 use Rattle.crystal_spec.proofs.Entrywise.{matrix_same}
 use Rattle.basis_spec.proofs.MatrixLaws.{difference_is, image-identity, sum_comm, sum_swap, add_subtract}
 use Rattle.basis_spec.proofs.Translations.{site_away}
-use Rattle.basis_spec.proofs.Residues.{residue_away, residue_within}
+use Rattle.positions.proofs.Residues.{modulo_away, modulo_within}
 use Rattle.basis_spec.proofs.PrimitiveCell.{differs_trans}
 use Rattle.basis_spec.proofs.PureTranslations.{translations_same, same_number}
 use Rattle.basis_spec.proofs.StepCount.{y_multiple, x_multiple, difference_in}
@@ -34,7 +34,7 @@ pub record Reaches (c : Structure) (w : Matrix) (translation : Triple) (a : Site
   pub atom : Site
   pub of_cell : IsMember atom c.sites
   pub same_species : atom.species ≡ a.species
-  pub is : translation ≡ residue c.n (difference atom.position (image w a.position))
+  pub is : translation ≡ modulo c.n (difference atom.position (image w a.position))
 
 -- each operation brings each atom to one of its species, so its translation is one of as many
 pub reaches : (c : Structure) (o : Operation) (a : Site) → pos 0 <ℤ pos c.n → IsSymmetryOperation c o → IsMember a c.sites → Reaches c o.matrix o.translation a
@@ -47,20 +47,20 @@ reaches c o a some k m =
       atom = h.site;
       of_cell = h.of_cell;
       same_species = h.same_species;
-      is = translations_same c.n o.translation (residue c.n u) k.translation (residue_within c.n u some) (differs_trans
+      is = translations_same c.n o.translation (modulo c.n u) k.translation (modulo_within c.n u some) (differs_trans
           (record {
             cells = d.cells;
             is = sym (add_subtract o.translation from) ∙ ap (λ v. sum_of v (multiple (negsuc 0) from)) (sum_comm o.translation from ∙ d.is) ∙ sum_swap h.site.position (multiple (pos c.n) d.cells) (multiple (negsuc 0) from);
           })
-          (residue_away c.n u some))
-          ∙ ap (residue c.n) (sym (difference_is h.site.position from));
+          (modulo_away c.n u some))
+          ∙ ap (modulo c.n) (sym (difference_is h.site.position from));
     }
 
 -- a pure translation is the difference of the positions of two atoms of a species, of which the first may be chosen
-pub pure_reaches : (c : Structure) (t : Triple) (a : Site) → pos 0 <ℤ pos c.n → IsPureTranslation c t → IsMember a c.sites → (b : Site) × (IsMember b c.sites × ((b.species ≡ a.species) × (t ≡ residue c.n (difference b.position a.position))))
+pub pure_reaches : (c : Structure) (t : Triple) (a : Site) → pos 0 <ℤ pos c.n → IsPureTranslation c t → IsMember a c.sites → (b : Site) × (IsMember b c.sites × ((b.species ≡ a.species) × (t ≡ modulo c.n (difference b.position a.position))))
 pure_reaches c t a some h m =
     let k = reaches c (pure_translation t) a some (record { translation = h.translation; keeps = h.keeps }) m in
-    (k.atom, (k.of_cell, (k.same_species, k.is ∙ ap (λ (v : Triple). residue c.n (difference k.atom.position v)) (image-identity a.position))))
+    (k.atom, (k.of_cell, (k.same_species, k.is ∙ ap (λ (v : Triple). modulo c.n (difference k.atom.position v)) (image-identity a.position))))
 
 below_step : (s a c k : ℤ) → (pos 0 ≤ℤ a) × (a <ℤ s) → (pos 0 ≤ℤ c) × (c <ℤ s) → a +ℤ negsuc 0 *ℤ c ≡ s *ℤ k → a ≡ c
 below_step (negsuc n) a c k h l e = absurd (omega (arith, ints))

@@ -1,11 +1,11 @@
 -- The atoms that are left where each position is kept once: each is an atom of the list, and each position of the list
 -- stays.
-use Rattle.std.proofs.Common.{◌≡◌, Bool, true, false, List, [], ◌∷◌, map, refl, sym, ap, ◌∙◌, ◌⊎◌, inl, inr}
+use Rattle.std.proofs.Common.{◌≡◌, Bool, true, false, List, [], ◌∷◌, refl, sym, ap, ◌∙◌, ◌⊎◌, inl, inr}
 use Rattle.std.specs.Prelude.{Decides}
 use Rattle.std.proofs.lemmas.Bool.Decides.{Decides-int_eq, Decides-and, Decides-like}
+use Rattle.lists.specs.Increasing.{IsMember}
 use Rattle.crystal_spec.specs.Matrices.{Triple}
 use Rattle.crystal_spec.specs.Crystals.{Site}
-use Rattle.crystal_spec.specs.Increasing.{IsMember}
 use Rattle.basis_spec.specs.Bases.{is_same_position, without_position, first_at_each_position}
 use Rattle.crystal_spec.proofs.Entrywise.{triple_same}
 
@@ -61,21 +61,3 @@ stands_for a (b ∷ bs) (inr m) =
     by : (r : StandsFor a (first_at_each_position bs)) → (b.position ≡ r.site.position) ⊎ IsMember r.site (without_position b.position (first_at_each_position bs)) → StandsFor a (b ∷ without_position b.position (first_at_each_position bs))
     by r (inl e) = record { site = b; of_list = inl refl; same_position = e ∙ r.same_position }
     by r (inr h) = record { site = r.site; of_list = inr h; same_position = r.same_position }
-
--- a member of a mapped list, and where it comes from
-pub record MappedFrom {X Y : Type 0} (f : X → Y) (y : Y) (xs : List X) : Type 0 where
-  pub item : X
-  pub of_list : IsMember item xs
-  pub is : y ≡ f item
-
--- where a member of a mapped list comes from
-pub mapped_from : {X Y : Type 0} (f : X → Y) (y : Y) (xs : List X) → IsMember y (map f xs) → MappedFrom f y xs
-mapped_from f y [] m = absurd m
-mapped_from f y (x ∷ xs) (inl e) = record { item = x; of_list = inl refl; is = e }
-mapped_from f y (x ∷ xs) (inr m) = let r = mapped_from f y xs m in record { item = r.item; of_list = inr r.of_list; is = r.is }
-
--- what a member is mapped to is a member
-pub mapped_member : {X Y : Type 0} (f : X → Y) (x : X) (xs : List X) → IsMember x xs → IsMember (f x) (map f xs)
-mapped_member f x [] m = m
-mapped_member f x (y ∷ ys) (inl e) = inl (ap f e)
-mapped_member f x (y ∷ ys) (inr m) = inr (mapped_member f x ys m)

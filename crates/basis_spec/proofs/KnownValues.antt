@@ -1,18 +1,18 @@
 -- The primitive cell of a body-centred cube, worked by hand.
 use Rattle.std.proofs.lemmas.Int.{ints}
 use Rattle.std.proofs.Common.{subst, length, ◌<◌, ◌+ℤ◌, ◌*ℤ◌, ◌≤ℤ◌, ◌<ℤ◌, List, inl, inr, ap, sym, ◌∙◌, arith, ◌≡◌, ℤ, pos, negsuc, [], ◌∷◌, refl}
+use Rattle.lists.specs.Increasing.{IsMember}
 use Rattle.crystal_spec.specs.Matrices.{Triple, sum_of, Matrix, product, determinant, adjugate, identity}
 use Rattle.basis_spec.specs.Metrics.{matrix_multiple}
 use Rattle.crystal_spec.specs.Moments.{axial_vectors, turn_matrix}
 use Rattle.crystal_spec.specs.Crystals.{Site, Structure}
-use Rattle.crystal_spec.specs.Increasing.{IsMember}
 use Rattle.crystal_spec.specs.Operations.{IsWithinCell, Operation}
 use Rattle.crystal_spec.specs.Cells.{HasOneAtomEach, IsCell}
 use Rattle.basis_spec.specs.Translations.{pure_translation}
 use Rattle.basis_spec.specs.StepBases.{IsStepBasis, IsSteps, IsClosed, InLattice}
 use Rattle.basis_spec.proofs.StepLists.{least_first, least_second, least_third}
 use Rattle.basis_spec.specs.Bases.{cell_in_basis}
-use Rattle.basis_spec.specs.Positions.{origin, residue, triple}
+use Rattle.positions.specs.Positions.{origin, modulo, triple}
 
 rows : ℤ → ℤ → ℤ → ℤ → ℤ → ℤ → ℤ → ℤ → ℤ → Matrix
 rows a b c d e f g h i = record { a11 = a; a12 = b; a13 = c; a21 = d; a22 = e; a23 = f; a31 = g; a32 = h; a33 = i }
@@ -57,7 +57,7 @@ primitive_cell : cell_in_basis centred back ≡ record {
   kind = axial_vectors;
   sites = record { species = 0; position = triple (pos 0) (pos 0) (pos 0); moment = triple (negsuc 0) (negsuc 0) (pos 2) } ∷ [];
 }
-unfolding cell_in_basis turn_matrix centred back rows residue
+unfolding cell_in_basis turn_matrix centred back rows modulo
 primitive_cell = refl
 
 -- it is a cell: two positions that differ by a half do not differ by whole cells
@@ -120,16 +120,16 @@ centring = pure_translation origin ∷ pure_translation (triple (pos 1) (pos 1) 
 
 -- they are closed under sums modulo 2
 closed : IsClosed 2 centring
-unfolding centring residue
+unfolding centring modulo
 closed = record { zero_in = inl refl; sums = sums }
   where
     part : (t u : Triple) → pure_translation t ≡ pure_translation u → t ≡ u
     part t u e = ap (λ (o : Operation). o.translation) e
 
-    sum_modulo : {t u v w : Triple} → t ≡ v → u ≡ w → pure_translation (residue 2 (sum_of t u)) ≡ pure_translation (residue 2 (sum_of v w))
-    sum_modulo e f = λ i. pure_translation (residue 2 (sum_of (e i) (f i)))
+    sum_modulo : {t u v w : Triple} → t ≡ v → u ≡ w → pure_translation (modulo 2 (sum_of t u)) ≡ pure_translation (modulo 2 (sum_of v w))
+    sum_modulo e f = λ i. pure_translation (modulo 2 (sum_of (e i) (f i)))
 
-    sums : (t u : Triple) → IsMember (pure_translation t) centring → IsMember (pure_translation u) centring → IsMember (pure_translation (residue 2 (sum_of t u))) centring
+    sums : (t u : Triple) → IsMember (pure_translation t) centring → IsMember (pure_translation u) centring → IsMember (pure_translation (modulo 2 (sum_of t u))) centring
     sums t u (inl e) (inl f) = inl (sum_modulo (part t origin e) (part u origin f))
     sums t u (inl e) (inr (inl f)) = inr (inl (sum_modulo (part t origin e) (part u (triple (pos 1) (pos 1) (pos 1)) f)))
     sums t u (inl e) (inr (inr m)) = absurd m
@@ -146,7 +146,7 @@ zero_not_one e = omega (arith, ints)
 
 -- its triangular basis is (2, 0, 0), (0, 2, 0), (1, 1, 1)
 is_basis : IsStepBasis (InLattice 2 centring) basis
-unfolding centring InLattice residue basis rows
+unfolding centring InLattice modulo basis rows
 is_basis = record {
   zeros = (refl, refl, refl);
   first = least_first 2 centring some closed (pos 2) (omega (arith, ints)) (inl refl) (omega (arith, ints)) x_least;

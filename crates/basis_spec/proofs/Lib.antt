@@ -2,16 +2,14 @@ pub mod MatrixLaws
 pub mod Cancelling
 pub mod Translations
 pub mod OperationBases
-pub mod Residues
 pub mod FirstAtoms
 pub mod PrimitiveCell
 pub mod StepBases
 pub mod StepIndex
 pub mod StepMaking
 pub mod StepLists
-pub mod Counting
 pub mod StepCount
-pub mod StepSizes
+mod StepSizes
 pub mod StepEntries
 pub mod PureTranslations
 pub mod Candidates

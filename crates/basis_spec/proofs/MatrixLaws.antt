@@ -9,7 +9,7 @@ use Rattle.matrix3.specs.Matrices as formulas
 use Rattle.crystal_spec.specs.Matrices.{Triple, Matrix, product, difference, image, determinant, adjugate, multiple, sum_of, identity, transposed}
 use Rattle.crystal_spec.proofs.Identities.{by_integers, by_triples, by_matrices}
 pub use Rattle.crystal_spec.proofs.MatrixLaws.{quoted_multiple, image-product, image-identity, image-matrix_multiple, multiple_swap, product-matrix_multiple_left, product-matrix_multiple_right}
-use Rattle.basis_spec.specs.Positions.{triple, origin}
+use Rattle.positions.specs.Positions.{triple, origin}
 use Rattle.basis_spec.specs.Metrics.{matrix_multiple, metric_in}
 
 -- this crate's words as expressions

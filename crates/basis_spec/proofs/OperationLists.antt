@@ -2,18 +2,18 @@
 -- exactly that of the cell, and maps with fractions add none.
 use Rattle.std.proofs.Common.{◌≡◌, ℕ, Bool, true, false, ℤ, pos, ◌<ℤ◌, List, sym, subst}
 use Rattle.std.specs.Prelude.{◌↔◌}
+use Rattle.lists.specs.Increasing.{IsIncreasing, IsMember}
 use Rattle.crystal_spec.specs.declared.Sign.{Sign}
 use Rattle.crystal_spec.specs.declared.Sign.TheVariants.{Same}
 use Rattle.crystal_spec.specs.Matrices.{Triple, Matrix, image, multiple}
 use Rattle.crystal_spec.specs.Crystals.{Structure, Occupied, Keeps, IsPositive}
-use Rattle.basis_spec.specs.Positions.{residue}
+use Rattle.positions.specs.Positions.{modulo}
 use Rattle.crystal_spec.specs.Operations.{IsWithinCell, Operation, sign_factor, compare_of, IsSymmetryOperation, ListsAll, ListsAllSame}
-use Rattle.crystal_spec.specs.Increasing.{IsIncreasing, IsMember}
 use Rattle.crystal_spec.specs.Cells.{DiffersByCells}
 use Rattle.basis_spec.specs.Translations.{IsPrimitive}
 use Rattle.basis_spec.specs.Bases.{SameCrystal}
 use Rattle.basis_spec.specs.Carrying.{KeepsAny, IsCarried, IsListed}
-use Rattle.basis_spec.proofs.Residues.{residue_away, residue_within}
+use Rattle.positions.proofs.Residues.{modulo_away, modulo_within}
 use Rattle.basis_spec.proofs.OperationBases.{cells_translation, keeps_moved, keeps_there, keeps_here}
 use Rattle.basis_spec.proofs.PrimitiveCell.{differs_sym, cells_alone}
 use Rattle.basis_spec.proofs.WholeMaps.{whole}
@@ -67,16 +67,16 @@ module _ (c c' : Structure) (r : Matrix) (same : SameCrystal c c' r) (primitive 
     where
       down : IsCarried c'.n r operations o → IsSymmetryOperation c o × IsWanted time o
       down k =
-          let is = (a.exact (record { matrix = k.matrix; translation = residue c'.n (image r o.translation); sign = o.sign })).0 k.of_list in (
+          let is = (a.exact (record { matrix = k.matrix; translation = modulo c'.n (image r o.translation); sign = o.sign })).0 k.of_list in (
             record {
               translation = subst (λ (n : ℕ). IsWithinCell n o.translation) same.n k.translation;
               keeps = keeps_here c c' r same o.matrix o.translation (sign_factor o.sign) (record {
                 matrix = k.matrix;
                 turned = k.turned;
-                keeps = keeps_differs c' k.matrix (residue c'.n (image r o.translation)) (image r o.translation) (sign_factor o.sign) (residue_away c'.n (image r o.translation) some') is.0.keeps;
+                keeps = keeps_differs c' k.matrix (modulo c'.n (image r o.translation)) (image r o.translation) (sign_factor o.sign) (modulo_away c'.n (image r o.translation) some') is.0.keeps;
               });
             },
-            wanted_back time o k.matrix (residue c'.n (image r o.translation)) is.1,
+            wanted_back time o k.matrix (modulo c'.n (image r o.translation)) is.1,
           )
 
       up : IsSymmetryOperation c o × IsWanted time o → IsCarried c'.n r operations o
@@ -86,12 +86,12 @@ module _ (c c' : Structure) (r : Matrix) (same : SameCrystal c c' r) (primitive 
             translation = subst (λ (n : ℕ). IsWithinCell n o.translation) (sym same.n) h.0.translation;
             matrix = k.matrix;
             turned = k.turned;
-            of_list = (a.exact (record { matrix = k.matrix; translation = residue c'.n (image r o.translation); sign = o.sign })).1 (
+            of_list = (a.exact (record { matrix = k.matrix; translation = modulo c'.n (image r o.translation); sign = o.sign })).1 (
               record {
-                translation = residue_within c'.n (image r o.translation) some';
-                keeps = keeps_differs c' k.matrix (image r o.translation) (residue c'.n (image r o.translation)) (sign_factor o.sign) (differs_sym (residue_away c'.n (image r o.translation) some')) k.keeps;
+                translation = modulo_within c'.n (image r o.translation) some';
+                keeps = keeps_differs c' k.matrix (image r o.translation) (modulo c'.n (image r o.translation)) (sign_factor o.sign) (differs_sym (modulo_away c'.n (image r o.translation) some')) k.keeps;
               },
-              wanted_carried time o k.matrix (residue c'.n (image r o.translation)) h.1,
+              wanted_carried time o k.matrix (modulo c'.n (image r o.translation)) h.1,
             );
           }
 
@@ -105,10 +105,10 @@ nothing_missed c operations a primitive some positive s p m o b translation d si
       whole_translation = w.whole_translation;
       matrix_is = w.matrix_is;
       translation_is = w.translation_is;
-      of_list = (a.exact (record { matrix = w.matrix; translation = residue c.n w.whole_translation; sign = sign })).1 (
+      of_list = (a.exact (record { matrix = w.matrix; translation = modulo c.n w.whole_translation; sign = sign })).1 (
         record {
-          translation = residue_within c.n w.whole_translation some;
-          keeps = keeps_differs c w.matrix w.whole_translation (residue c.n w.whole_translation) (sign_factor sign) (differs_sym (residue_away c.n w.whole_translation some)) w.keeps;
+          translation = modulo_within c.n w.whole_translation some;
+          keeps = keeps_differs c w.matrix w.whole_translation (modulo c.n w.whole_translation) (sign_factor sign) (differs_sym (modulo_away c.n w.whole_translation some)) w.keeps;
         },
         tt,
       );

@@ -10,7 +10,7 @@ use Rattle.ring.proofs.IntOrder.{weaken_lt, mul_pos, mul_nonneg, sq_nonneg}
 use Rattle.crystal_spec.specs.Matrices.{Triple, Matrix, image, determinant, adjugate, transposed}
 use Rattle.basis_spec.specs.Metrics.{metric_in}
 use Rattle.basis_spec.proofs.MatrixLaws.{squared_length, squared_length-metric_in, determinant-metric_in, determinant-adjugate, metric_in-transposed, image-multiple, multiple-zero}
-use Rattle.basis_spec.specs.Positions.{origin, triple}
+use Rattle.positions.specs.Positions.{origin, triple}
 use Rattle.crystal_spec.specs.Crystals.{IsPositive}
 use Rattle.crystal_spec.proofs.Entrywise.{triple_same, matrix_same}
 use Rattle.basis_spec.proofs.Cancelling.{image_cancel, square_positive}

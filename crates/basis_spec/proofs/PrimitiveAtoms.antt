@@ -1,6 +1,7 @@
 -- The atoms of the cell in another basis are within it, no two at one position; and inverse changes of basis.
 use Rattle.std.proofs.lemmas.List.{length-map}
-use Rattle.crystal_spec.specs.Increasing.{IsDistinct}
+use Rattle.lists.specs.Increasing.{IsMember, IsDistinct}
+use Rattle.lists.proofs.Members.{mapped_from}
 use Rattle.crystal_spec.proofs.Images.{IsApart}
 use Rattle.basis_spec.proofs.PrimitiveCell.{differs_at, differs_itself}
 use Rattle.std.proofs.Common.{suc, length, ◌≤◌, ◌≡◌, ℕ, Bool, true, false, ℤ, pos, ◌<ℤ◌, List, [], ◌∷◌, map, refl, sym, ap, subst, ◌∙◌, inl, inr, arith}
@@ -8,14 +9,13 @@ use Rattle.std.proofs.lemmas.Int.{ints}
 use Rattle.crystal_spec.specs.Matrices.{Triple, Matrix, product, image, determinant, adjugate, multiple, identity}
 use Rattle.basis_spec.specs.Metrics.{matrix_multiple}
 use Rattle.crystal_spec.specs.Crystals.{Site, Structure}
-use Rattle.crystal_spec.specs.Increasing.{IsMember}
 use Rattle.crystal_spec.specs.Operations.{IsWithinCell}
 use Rattle.crystal_spec.specs.Cells.{HasOneAtomEach, IsCell}
 use Rattle.basis_spec.specs.Bases.{IsBack, is_same_position, without_position, first_at_each_position, site_in_basis, cell_in_basis}
 use Rattle.basis_spec.proofs.MatrixLaws.{image-product, image-identity, image-multiple, image-matrix_multiple, same_images}
 use Rattle.basis_spec.proofs.Cancelling.{image_cancel}
-use Rattle.basis_spec.proofs.Residues.{residue_within}
-use Rattle.basis_spec.proofs.FirstAtoms.{same_position_decides, member_of_without, member_of_firsts, mapped_from}
+use Rattle.positions.proofs.Residues.{modulo_within}
+use Rattle.basis_spec.proofs.FirstAtoms.{same_position_decides, member_of_without, member_of_firsts}
 use Rattle.basis_spec.proofs.PureTranslations.{translations_same}
 use Rattle.crystal_spec.proofs.Isometries.{image-adjugate}
 
@@ -80,7 +80,7 @@ apart_of_cell c cell d = record { within = cell.within; told = λ a b m k e. cel
 pub position_within : (c : Structure) (r : Matrix) → pos 0 <ℤ pos c.n → (a : Site) → IsMember a (first_at_each_position (map (site_in_basis c.n c.kind r) c.sites)) → IsWithinCell c.n a.position
 position_within c r some a m =
     let f = mapped_from (site_in_basis c.n c.kind r) a c.sites (member_of_firsts a (map (site_in_basis c.n c.kind r) c.sites) m) in
-    subst (IsWithinCell c.n) (sym (ap (λ (s : Site). s.position) f.is)) (residue_within c.n (image r f.item.position) some)
+    subst (IsWithinCell c.n) (sym (ap (λ (s : Site). s.position) f.is)) (modulo_within c.n (image r f.item.position) some)
 
 -- no two atoms of the cell in another basis are at one position
 pub cell_in_basis_one_atom_each : (c : Structure) (r : Matrix) → pos 0 <ℤ pos c.n → HasOneAtomEach (cell_in_basis c r)

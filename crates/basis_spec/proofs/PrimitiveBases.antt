@@ -8,22 +8,23 @@ use Rattle.std.proofs.Common.{◌≡◌, ℕ, ◌<◌, ℤ, pos, ◌*ℤ◌, ◌
 use Rattle.std.specs.Prelude.{◌↔◌}
 use Rattle.std.proofs.lemmas.List.{length-map}
 use Rattle.ring.specs.Ring.{var, con, ◌:*◌}
+use Rattle.lists.specs.Increasing.{IsMember}
+use Rattle.lists.proofs.Members.{mapped_from, mapped_member}
 use Rattle.crystal_spec.specs.Matrices.{Triple, Matrix, product, image, determinant, adjugate, identity}
 use Rattle.crystal_spec.specs.Crystals.{Site, Structure}
-use Rattle.crystal_spec.specs.Increasing.{IsMember}
 use Rattle.crystal_spec.specs.Operations.{Operation}
 use Rattle.crystal_spec.specs.Cells.{IsCell}
 use Rattle.crystal_spec.proofs.Identities.{by_integers}
 use Rattle.crystal_spec.proofs.Images.{occupied_itself}
 use Rattle.crystal_spec.proofs.Isometries.{determinant-product}
-use Rattle.basis_spec.specs.Positions.{triple}
+use Rattle.positions.specs.Positions.{triple}
 use Rattle.basis_spec.specs.Metrics.{matrix_multiple}
 use Rattle.basis_spec.specs.Translations.{IsTranslation, ListsPureTranslations}
 use Rattle.basis_spec.specs.Bases.{IsBack, IsPrimitiveIn, cell_in_basis, first_at_each_position, site_in_basis}
 use Rattle.basis_spec.specs.StepBases.{IsStepBasis, IsSteps, InLattice}
 use Rattle.basis_spec.proofs.MatrixLaws.{product_assoc, image-product, image-identity, same_images}
 use Rattle.basis_spec.proofs.OperationBases.{at_least_one}
-use Rattle.basis_spec.proofs.FirstAtoms.{mapped_from, mapped_member, member_of_firsts, stands_for}
+use Rattle.basis_spec.proofs.FirstAtoms.{member_of_firsts, stands_for}
 use Rattle.basis_spec.proofs.StepBases.{back, back_whole, basis_above}
 use Rattle.basis_spec.proofs.StepEntries.{back_once, index_is_determinant}
 use Rattle.basis_spec.proofs.StepIndex.{translations_lattice, step_back, back_then, determinant_then}

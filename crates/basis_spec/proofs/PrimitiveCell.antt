@@ -5,11 +5,12 @@
 -- have one species and one moment. So it does not matter which of them is kept: the atoms in the other basis are exactly
 -- the images. A translation u there is R t, where t is a translation here; so u is whole cells.
 use Rattle.std.proofs.Common.{◌≡◌, ℕ, pos, negsuc, ◌<ℤ◌, map, refl, sym, ap, subst, ◌∙◌}
+use Rattle.lists.specs.Increasing.{IsMember}
+use Rattle.lists.proofs.Members.{mapped_from, mapped_member}
 use Rattle.crystal_spec.specs.Matrices.{Triple, Matrix, image, determinant, multiple, sum_of, identity}
-use Rattle.basis_spec.specs.Positions.{origin, residue}
+use Rattle.positions.specs.Positions.{origin, modulo}
 use Rattle.crystal_spec.specs.Moments.{turn_matrix}
 use Rattle.crystal_spec.specs.Crystals.{Site, Structure, Occupied}
-use Rattle.crystal_spec.specs.Increasing.{IsMember}
 use Rattle.crystal_spec.specs.Cells.{DiffersByCells, HasOneAtomEach}
 use Rattle.basis_spec.specs.Translations.{IsTranslation, IsPrimitive, HasOnlyWholeCells}
 use Rattle.basis_spec.specs.Bases.{ComesFrom, SameCrystal, IsBack}
@@ -17,8 +18,8 @@ use Rattle.basis_spec.specs.Bases.{site_in_basis, cell_in_basis}
 use Rattle.basis_spec.proofs.MatrixLaws.{image-identity, image-multiple, image-sum_of, image-product, image-matrix_multiple, multiple_swap, multiple-origin, multiple-sum_of, sum_of-origin, sum_assoc, sum_comm, add_subtract, subtract_add, add_difference, metric_in-metric_in_adjugate}
 use Rattle.basis_spec.proofs.Cancelling.{sum_cancel, image_cancel}
 use Rattle.basis_spec.proofs.Translations.{site_away, occupied_as, is_translation, moves, moves_back}
-use Rattle.basis_spec.proofs.Residues.{residue_away, residue_within, cells_within}
-use Rattle.basis_spec.proofs.FirstAtoms.{member_of_firsts, stands_for, mapped_from, mapped_member}
+use Rattle.positions.proofs.Residues.{modulo_away, modulo_within, cells_within}
+use Rattle.basis_spec.proofs.FirstAtoms.{member_of_firsts, stands_for}
 use Rattle.basis_spec.proofs.OperationBases.{at_least_one, cells_translation, translation_here}
 use Rattle.crystal_spec.proofs.Images.{occupied_itself}
 use Rattle.crystal_spec.proofs.Moments.{turn-positive}
@@ -69,7 +70,7 @@ module _ (c : Structure) (r : Matrix) (some_cells : pos 0 <ℤ pos c.n) (b : IsB
         of_cell = f.of_list;
         species = ap (λ (a : Site). a.species) f.is;
         moment = ap (λ (a : Site). a.moment) f.is;
-        position = differs_at (sym (ap (λ (a : Site). a.position) f.is)) refl (differs_sym (residue_away c.n (image r f.item.position) some_cells));
+        position = differs_at (sym (ap (λ (a : Site). a.position) f.is)) refl (differs_sym (modulo_away c.n (image r f.item.position) some_cells));
       }
 
   -- the atom of the primitive cell at a's position
@@ -82,7 +83,7 @@ module _ (c : Structure) (r : Matrix) (some_cells : pos 0 <ℤ pos c.n) (b : IsB
   unfolding cell_in_basis
   taken a h =
       let f = stands_for (site_in_basis c.n c.kind r a) (map (site_in_basis c.n c.kind r) c.sites) (mapped_member (site_in_basis c.n c.kind r) a c.sites h) in
-      record { site = f.site; of_primitive = f.of_list; position = differs_at refl (sym f.same_position) (residue_away c.n (image r a.position) some_cells) }
+      record { site = f.site; of_primitive = f.of_list; position = differs_at refl (sym f.same_position) (modulo_away c.n (image r a.position) some_cells) }
 
   n_is : (cell_in_basis c r).n ≡ c.n
   unfolding cell_in_basis
@@ -174,16 +175,16 @@ translation_sum c t u h k = is_translation c (sum_of t u)
     (λ s p m o. moves_back c t h s p m (moves_back c u k s (sum_of p t) m (occupied_as c s (sym (sum_assoc p t u)) refl o)))
 
 -- a translation modulo n is a translation
-pub residue_translation : (c : Structure) (t : Triple) → pos 0 <ℤ pos c.n → IsTranslation c t → IsTranslation c (residue c.n t)
+pub residue_translation : (c : Structure) (t : Triple) → pos 0 <ℤ pos c.n → IsTranslation c t → IsTranslation c (modulo c.n t)
 residue_translation c t h is =
-    let d = differs_sym (residue_away c.n t h) in
+    let d = differs_sym (modulo_away c.n t h) in
     subst (IsTranslation c) (sym d.is) (translation_sum c t (multiple (pos c.n) d.cells) is (cells_translation c d.cells))
 
 -- a primitive cell has no translation but whole cells
 pub cells_alone : (c : Structure) → pos 0 <ℤ pos c.n → IsPrimitive c → HasOnlyWholeCells c
 cells_alone c h none t is =
-    let z = none (residue c.n t) (record { translation = residue_within c.n t h; keeps = residue_translation c t h is }) in
-    let d = residue_away c.n t h in
+    let z = none (modulo c.n t) (record { translation = modulo_within c.n t h; keeps = residue_translation c t h is }) in
+    let d = modulo_away c.n t h in
     record { cells = d.cells; is = d.is ∙ ap (λ v. sum_of v (multiple (pos c.n) d.cells)) z ∙ sum_comm origin (multiple (pos c.n) d.cells) ∙ sum_of-origin (multiple (pos c.n) d.cells) }
 
 -- a cell with no translation but whole cells is primitive

@@ -4,10 +4,13 @@ use Rattle.std.proofs.Common.{◌≡◌, ℕ, ◌≤◌, suc, zero, Bool, true, 
 use Rattle.std.proofs.lemmas.Bool.Decides.{Decides-eqb}
 use Rattle.std.proofs.lemmas.List.{length-map}
 use Rattle.std.proofs.lemmas.Int.{ints}
+use Rattle.lists.specs.Increasing.{IsMember, IsDistinct}
+use Rattle.lists.proofs.Members.{mapped_from, mapped_member}
+use Rattle.lists.proofs.Distinct.{IsDistinct-mapped}
+use Rattle.lists.proofs.Counting.{length_le}
 use Rattle.crystal_spec.specs.Matrices.{Triple, multiple, sum_of}
-use Rattle.basis_spec.specs.Positions.{origin, residue}
+use Rattle.positions.specs.Positions.{origin, modulo}
 use Rattle.crystal_spec.specs.Crystals.{Site, Structure}
-use Rattle.crystal_spec.specs.Increasing.{IsMember, IsDistinct}
 use Rattle.basis_spec.specs.Translations.{IsTranslation, IsPureTranslation, of_species, IsRarest}
 use Rattle.crystal_spec.specs.Operations.{IsWithinCell}
 use Rattle.crystal_spec.specs.Cells.{DiffersByCells}
@@ -15,11 +18,9 @@ use Rattle.crystal_spec.proofs.Entrywise.{triple_same}
 use Rattle.basis_spec.proofs.MatrixLaws.{sum_comm, sum_assoc, multiple-origin}
 use Rattle.basis_spec.proofs.Cancelling.{sum_cancel}
 use Rattle.basis_spec.proofs.Translations.{site_away, moves}
-use Rattle.basis_spec.proofs.Residues.{residue_away, residue_within}
+use Rattle.positions.proofs.Residues.{modulo_away, modulo_within}
 use Rattle.basis_spec.proofs.OperationBases.{cells_translation}
 use Rattle.basis_spec.proofs.PrimitiveCell.{differs_sym, differs_trans, differs_at, translation_sum, residue_translation}
-use Rattle.basis_spec.proofs.FirstAtoms.{mapped_from, mapped_member}
-use Rattle.basis_spec.proofs.Counting.{length_le, mapped_once}
 use Rattle.crystal_spec.proofs.Images.{occupied_itself}
 
 -- two numbers from 0 to n - 1 that differ by a multiple of n are one
@@ -34,9 +35,9 @@ pub translations_same : (n : ℕ) (t u : Triple) → IsWithinCell n t → IsWith
 translations_same n t u h k d = triple_same (same_number n t.x u.x d.cells.x h.x k.x (ap (λ (v : Triple). v.x) d.is)) (same_number n t.y u.y d.cells.y h.y k.y (ap (λ (v : Triple). v.y) d.is)) (same_number n t.z u.z d.cells.z h.z k.z (ap (λ (v : Triple). v.z) d.is))
 
 -- what differs by whole cells is the same modulo n
-pub residues_same : (n : ℕ) (p q : Triple) → pos 0 <ℤ pos n → DiffersByCells n p q → residue n p ≡ residue n q
-residues_same n p q h d = translations_same n (residue n p) (residue n q) (residue_within n p h) (residue_within n q h)
-    (differs_trans (differs_sym (residue_away n p h)) (differs_trans d (residue_away n q h)))
+pub residues_same : (n : ℕ) (p q : Triple) → pos 0 <ℤ pos n → DiffersByCells n p q → modulo n p ≡ modulo n q
+residues_same n p q h d = translations_same n (modulo n p) (modulo n q) (modulo_within n p h) (modulo_within n q h)
+    (differs_trans (differs_sym (modulo_away n p h)) (differs_trans d (modulo_away n q h)))
 
 zero_within : (n : ℕ) → pos 0 <ℤ pos n → (pos 0 ≤ℤ pos 0) × (pos 0 <ℤ pos n)
 zero_within n h = (omega (arith, ints), h)
@@ -46,8 +47,8 @@ pub pure_zero : (c : Structure) → pos 0 <ℤ pos c.n → IsPureTranslation c o
 pure_zero c h = record { translation = record { x = zero_within c.n h; y = zero_within c.n h; z = zero_within c.n h }; keeps = subst (IsTranslation c) (multiple-origin (pos c.n)) (cells_translation c origin) }
 
 -- the sum of two pure translations, modulo n, is one
-pub pure_sum : (c : Structure) (t u : Triple) → pos 0 <ℤ pos c.n → IsPureTranslation c t → IsPureTranslation c u → IsPureTranslation c (residue c.n (sum_of t u))
-pure_sum c t u h p q = record { translation = residue_within c.n (sum_of t u) h; keeps = residue_translation c (sum_of t u) h (translation_sum c t u p.keeps q.keeps) }
+pub pure_sum : (c : Structure) (t u : Triple) → pos 0 <ℤ pos c.n → IsPureTranslation c t → IsPureTranslation c u → IsPureTranslation c (modulo c.n (sum_of t u))
+pure_sum c t u h p q = record { translation = modulo_within c.n (sum_of t u) h; keeps = residue_translation c (sum_of t u) h (translation_sum c t u p.keeps q.keeps) }
 
 of_species_member : (s : ℕ) (a : Site) (sites : List Site) → IsMember a sites → a.species ≡ s → IsMember a (of_species s sites)
 of_species_member s a [] m e = m
@@ -64,35 +65,35 @@ of_species_member s a (b ∷ sites) (inr m) e = by (eqb b.species s) (of_species
 
 module _ (c : Structure) (some : pos 0 <ℤ pos c.n) (a : Site) (of_cell : IsMember a c.sites) where
   carried : Triple → Triple
-  carried t = residue c.n (sum_of a.position t)
+  carried t = modulo c.n (sum_of a.position t)
 
   moved_apart : (t u : Triple) → DiffersByCells c.n (sum_of a.position t) (sum_of a.position u) → DiffersByCells c.n t u
   moved_apart t u d = record { cells = d.cells; is = sum_cancel t (sum_of u (multiple (pos c.n) d.cells)) a.position (sum_comm t a.position ∙ d.is ∙ sum_assoc a.position u (multiple (pos c.n) d.cells) ∙ sum_comm a.position (sum_of u (multiple (pos c.n) d.cells))) }
 
   carried_apart : (t u : Triple) → IsWithinCell c.n t → IsWithinCell c.n u → carried t ≡ carried u → t ≡ u
   unfolding carried
-  carried_apart t u h k e = translations_same c.n t u h k (moved_apart t u (differs_trans (residue_away c.n (sum_of a.position t) some) (differs_at (sym e) refl (differs_sym (residue_away c.n (sum_of a.position u) some)))))
+  carried_apart t u h k e = translations_same c.n t u h k (moved_apart t u (differs_trans (modulo_away c.n (sum_of a.position t) some) (differs_at (sym e) refl (differs_sym (modulo_away c.n (sum_of a.position u) some)))))
 
-  carried_there : (t : Triple) → IsPureTranslation c t → IsMember (carried t) (map (λ (b : Site). residue c.n b.position) (of_species a.species c.sites))
+  carried_there : (t : Triple) → IsPureTranslation c t → IsMember (carried t) (map (λ (b : Site). modulo c.n b.position) (of_species a.species c.sites))
   unfolding carried
   carried_there t h =
       let o = moves c t h.keeps a.species a.position a.moment (occupied_itself c a of_cell) in
-      subst (λ (v : Triple). IsMember v (map (λ (b : Site). residue c.n b.position) (of_species a.species c.sites))) (sym (residues_same c.n (sum_of a.position t) o.site.position some (site_away o)))
-      (mapped_member (λ (b : Site). residue c.n b.position) o.site (of_species a.species c.sites) (of_species_member a.species o.site c.sites o.of_cell o.same_species))
+      subst (λ (v : Triple). IsMember v (map (λ (b : Site). modulo c.n b.position) (of_species a.species c.sites))) (sym (residues_same c.n (sum_of a.position t) o.site.position some (site_away o)))
+      (mapped_member (λ (b : Site). modulo c.n b.position) o.site (of_species a.species c.sites) (of_species_member a.species o.site c.sites o.of_cell o.same_species))
 
   -- no more pure translations than atoms of any species
   pub few_translations : (ws : List Triple) → IsDistinct ws → ((t : Triple) → IsMember t ws → IsPureTranslation c t) → length ws ≤ length (of_species a.species c.sites)
   few_translations ws once pure =
-      let fit : length (map carried ws) ≤ length (map (λ (b : Site). residue c.n b.position) (of_species a.species c.sites)) =
-      length_le (map carried ws) (map (λ (b : Site). residue c.n b.position) (of_species a.species c.sites))
-      (mapped_once carried ws once (λ t u m k e. carried_apart t u (pure t m).translation (pure u k).translation e))
+      let fit : length (map carried ws) ≤ length (map (λ (b : Site). modulo c.n b.position) (of_species a.species c.sites)) =
+      length_le (map carried ws) (map (λ (b : Site). modulo c.n b.position) (of_species a.species c.sites))
+      (IsDistinct-mapped carried ws once (λ t u m k e. carried_apart t u (pure t m).translation (pure u k).translation e))
       there in
       let m = length-map ws carried in
-      let k = length-map (of_species a.species c.sites) (λ (b : Site). residue c.n b.position) in
+      let k = length-map (of_species a.species c.sites) (λ (b : Site). modulo c.n b.position) in
       omega arith
     where
-      there : (z : Triple) → IsMember z (map carried ws) → IsMember z (map (λ (b : Site). residue c.n b.position) (of_species a.species c.sites))
-      there z m = let r = mapped_from carried z ws m in subst (λ (v : Triple). IsMember v (map (λ (b : Site). residue c.n b.position) (of_species a.species c.sites))) (sym r.is) (carried_there r.item (pure r.item r.of_list))
+      there : (z : Triple) → IsMember z (map carried ws) → IsMember z (map (λ (b : Site). modulo c.n b.position) (of_species a.species c.sites))
+      there z m = let r = mapped_from carried z ws m in subst (λ (v : Triple). IsMember v (map (λ (b : Site). modulo c.n b.position) (of_species a.species c.sites))) (sym r.is) (carried_there r.item (pure r.item r.of_list))
 
 -- so there are at most as many as the rarest species has atoms
 pub rarest_translations : (c : Structure) (count : ℕ) → pos 0 <ℤ pos c.n → IsRarest c count → (ws : List Triple) → IsDistinct ws → ((t : Triple) → IsMember t ws → IsPureTranslation c t) → length ws ≤ count

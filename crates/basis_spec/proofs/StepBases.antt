@@ -10,12 +10,12 @@ use Rattle.ring.specs.Ring.{var, con, ◌:+◌, ◌:-◌, ◌:*◌, opposite}
 use Rattle.ring.proofs.IntOrder.{mul_pos}
 use Rattle.crystal_spec.specs.Matrices.{Triple, Matrix, product, image, determinant, multiple, sum_of, identity}
 use Rattle.basis_spec.specs.Metrics.{matrix_multiple}
-use Rattle.basis_spec.specs.Positions.{origin, triple}
+use Rattle.positions.specs.Positions.{origin, triple}
 use Rattle.basis_spec.specs.StepBases.{IsLattice, IsStepBasis}
 use Rattle.basis_spec.proofs.MatrixLaws.{Factor, factor, image-identity, image-multiple, image-product, image-matrix_multiple, multiple-multiple, multiple-zero, multiple-origin, sum_of-origin, sum_comm, same_images}
 use Rattle.crystal_spec.proofs.Entrywise.{triple_same}
 use Rattle.basis_spec.proofs.Cancelling.{image_cancel}
-use Rattle.basis_spec.proofs.Residues.{euclid, remainder_within}
+use Rattle.positions.proofs.Residues.{euclid, remainder_within}
 use Rattle.crystal_spec.proofs.Identities.{by_integers}
 
 -- an integer divided by a positive one: quotient and rest

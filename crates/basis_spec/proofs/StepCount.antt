@@ -11,15 +11,15 @@ use Rattle.std.proofs.Math.Nat.{add-mul-div_left, div-lt_iff_lt-mul}
 use Rattle.std.proofs.lemmas.Nat.{div-mul-add}
 use Rattle.ring.specs.Ring.{var, con, ◌:+◌, ◌:-◌, ◌:*◌}
 use Rattle.ring.proofs.IntOrder.{mul_pos}
+use Rattle.lists.specs.Increasing.{IsMember, IsDistinct}
+use Rattle.lists.proofs.Counting.{length_by_digits, mixed}
 use Rattle.crystal_spec.specs.Matrices.{Triple, Matrix, image, determinant, multiple, sum_of}
-use Rattle.crystal_spec.specs.Increasing.{IsMember, IsDistinct}
 use Rattle.crystal_spec.specs.Operations.{IsWithinCell}
 use Rattle.basis_spec.specs.StepBases.{IsLattice, IsStepBasis}
-use Rattle.basis_spec.specs.Positions.{triple}
+use Rattle.positions.specs.Positions.{triple}
 use Rattle.crystal_spec.proofs.Entrywise.{triple_same}
 use Rattle.basis_spec.proofs.MatrixLaws.{axis1, axis2, axis3}
 use Rattle.basis_spec.proofs.Cancelling.{mul_cancel}
-use Rattle.basis_spec.proofs.Counting.{mixed, length_by_digits}
 use Rattle.basis_spec.proofs.StepBases.{divided, coordinates, spanned, back}
 use Rattle.basis_spec.proofs.StepIndex.{index_cube}
 use Rattle.crystal_spec.proofs.Identities.{by_integers}

@@ -5,9 +5,9 @@ use Rattle.std.specs.Int.{int_rem_euclid, int_div_euclid}
 use Rattle.std.proofs.lemmas.Int.{ints}
 use Rattle.ring.specs.Ring.{var, con, ◌:+◌, ◌:*◌}
 use Rattle.ring.proofs.IntOrder.{weaken_lt}
+use Rattle.lists.specs.Increasing.{IsMember}
 use Rattle.crystal_spec.specs.Matrices.{Triple, multiple, sum_of}
-use Rattle.basis_spec.specs.Positions.{origin, residue, triple}
-use Rattle.crystal_spec.specs.Increasing.{IsMember}
+use Rattle.positions.specs.Positions.{origin, modulo, triple}
 use Rattle.crystal_spec.specs.Operations.{IsWithinCell, Operation}
 use Rattle.crystal_spec.specs.Cells.{DiffersByCells}
 use Rattle.basis_spec.specs.Translations.{pure_translation}
@@ -15,7 +15,7 @@ use Rattle.basis_spec.specs.StepBases.{IsClosed, InLattice, IsLattice, IsLeastPo
 use Rattle.crystal_spec.proofs.Entrywise.{triple_same}
 use Rattle.basis_spec.proofs.MatrixLaws.{sum_comm, sum_assoc, sum_of-origin, multiple-zero, multiple-sum_of, sum_swap}
 use Rattle.basis_spec.proofs.StepBases.{once_more}
-use Rattle.basis_spec.proofs.Residues.{residue_away, residue_within, euclid, remainder_within}
+use Rattle.positions.proofs.Residues.{modulo_away, modulo_within, euclid, remainder_within}
 use Rattle.basis_spec.proofs.PrimitiveCell.{differs_trans}
 use Rattle.basis_spec.proofs.PureTranslations.{residues_same, translations_same, same_number}
 use Rattle.crystal_spec.proofs.Identities.{by_integers}
@@ -43,7 +43,7 @@ module _ (n : ℕ) (operations : List Operation) (some : pos 0 <ℤ pos n) (clos
 
   origin_in : InLattice n operations origin
   unfolding InLattice
-  origin_in = subst (λ (v : Triple). IsMember (pure_translation v) operations) (translations_same n origin (residue n origin) origin_within (residue_within n origin some) (residue_away n origin some)) closed.zero_in
+  origin_in = subst (λ (v : Triple). IsMember (pure_translation v) operations) (translations_same n origin (modulo n origin) origin_within (modulo_within n origin some) (modulo_away n origin some)) closed.zero_in
 
   cells_in : (d : Triple) → InLattice n operations (multiple (pos n) d)
   cells_in d = away (multiple (pos n) d) origin (record { cells = d; is = sym (sum_comm origin (multiple (pos n) d) ∙ sum_of-origin (multiple (pos n) d)) }) origin_in
@@ -60,16 +60,16 @@ module _ (n : ℕ) (operations : List Operation) (some : pos 0 <ℤ pos n) (clos
   -- a member of the list, as a member of the lattice
   once_in : (v : Triple) → IsWithinCell n v → IsMember (pure_translation v) operations → InLattice n operations v
   unfolding InLattice
-  once_in v h m = subst (λ (u : Triple). IsMember (pure_translation u) operations) (translations_same n v (residue n v) h (residue_within n v some) (residue_away n v some)) m
+  once_in v h m = subst (λ (u : Triple). IsMember (pure_translation u) operations) (translations_same n v (modulo n v) h (modulo_within n v some) (modulo_away n v some)) m
 
-  sums_of : (t u : Triple) → InLattice n operations t → InLattice n operations u → IsMember (pure_translation (residue n (sum_of (residue n t) (residue n u)))) operations
+  sums_of : (t u : Triple) → InLattice n operations t → InLattice n operations u → IsMember (pure_translation (modulo n (sum_of (modulo n t) (modulo n u)))) operations
   unfolding InLattice
-  sums_of t u h k = closed.sums (residue n t) (residue n u) h k
+  sums_of t u h k = closed.sums (modulo n t) (modulo n u) h k
 
   sums_in : (t u : Triple) → InLattice n operations t → InLattice n operations u → InLattice n operations (sum_of t u)
-  sums_in t u h k = away (sum_of t u) (residue n (sum_of (residue n t) (residue n u)))
-      (differs_trans (differs_sums (residue_away n t some) (residue_away n u some)) (residue_away n (sum_of (residue n t) (residue n u)) some))
-      (once_in (residue n (sum_of (residue n t) (residue n u))) (residue_within n (sum_of (residue n t) (residue n u)) some) (sums_of t u h k))
+  sums_in t u h k = away (sum_of t u) (modulo n (sum_of (modulo n t) (modulo n u)))
+      (differs_trans (differs_sums (modulo_away n t some) (modulo_away n u some)) (modulo_away n (sum_of (modulo n t) (modulo n u)) some))
+      (once_in (modulo n (sum_of (modulo n t) (modulo n u))) (modulo_within n (sum_of (modulo n t) (modulo n u)) some) (sums_of t u h k))
 
   multiples_in : (k : ℕ) (t : Triple) → InLattice n operations t → InLattice n operations (multiple (pos k) t)
   multiples_in zero t h = subst (InLattice n operations) (sym (multiple-zero t)) origin_in
@@ -105,27 +105,27 @@ module _ (n : ℕ) (operations : List Operation) (some : pos 0 <ℤ pos n) (clos
 
   -- the least positive x of the list with y = z = 0, or n, is the least of the lattice
   pub least_first : (s : ℤ) → pos 0 <ℤ s → InLattice n operations (triple s (pos 0) (pos 0)) → s ≤ℤ pos n → ((x : ℤ) → pos 0 <ℤ x → IsMember (pure_translation (triple x (pos 0) (pos 0))) operations → s ≤ℤ x) → IsLeastPositive (λ s. InLattice n operations (triple s (pos 0) (pos 0))) s
-  unfolding InLattice residue
+  unfolding InLattice modulo
   least_first s p h top f = record { positive = p; it_holds = h; least = λ t q k. by t q k (up_to t) }
     where
-      by : (t : ℤ) → pos 0 <ℤ t → IsMember (pure_translation (residue n (triple t (pos 0) (pos 0)))) operations → (t <ℤ pos n) ⊎ (pos n ≤ℤ t) → s ≤ℤ t
+      by : (t : ℤ) → pos 0 <ℤ t → IsMember (pure_translation (modulo n (triple t (pos 0) (pos 0)))) operations → (t <ℤ pos n) ⊎ (pos n ≤ℤ t) → s ≤ℤ t
       by t q k (inl l) = f t q (subst (λ (v : Triple). IsMember (pure_translation v) operations) (triple_same (rest_itself t (weaken_lt (pos 0) t q) l) (rest_itself (pos 0) nothing_within.0 nothing_within.1) (rest_itself (pos 0) nothing_within.0 nothing_within.1)) k)
       by t q k (inr l) = through s t top l
 
   -- the least positive y with z = 0 is the least of the lattice
   pub least_second : (s x : ℤ) → pos 0 <ℤ s → InLattice n operations (triple x s (pos 0)) → s ≤ℤ pos n → ((x y : ℤ) → pos 0 <ℤ y → IsMember (pure_translation (triple x y (pos 0))) operations → s ≤ℤ y) → IsLeastPositive (λ s. (x : ℤ) × InLattice n operations (triple x s (pos 0))) s
-  unfolding InLattice residue
+  unfolding InLattice modulo
   least_second s x p h top f = record { positive = p; it_holds = (x, h); least = λ t q k. by t k.0 q k.1 (up_to t) }
     where
-      by : (t x : ℤ) → pos 0 <ℤ t → IsMember (pure_translation (residue n (triple x t (pos 0)))) operations → (t <ℤ pos n) ⊎ (pos n ≤ℤ t) → s ≤ℤ t
+      by : (t x : ℤ) → pos 0 <ℤ t → IsMember (pure_translation (modulo n (triple x t (pos 0)))) operations → (t <ℤ pos n) ⊎ (pos n ≤ℤ t) → s ≤ℤ t
       by t x q k (inl l) = f (int_rem_euclid x (pos n)) t q (subst (λ (v : Triple). IsMember (pure_translation v) operations) (triple_same refl (rest_itself t (weaken_lt (pos 0) t q) l) (rest_itself (pos 0) nothing_within.0 nothing_within.1)) k)
       by t x q k (inr l) = through s t top l
 
   -- the least positive z is the least of the lattice
   pub least_third : (s x y : ℤ) → pos 0 <ℤ s → InLattice n operations (triple x y s) → s ≤ℤ pos n → ((x y z : ℤ) → pos 0 <ℤ z → IsMember (pure_translation (triple x y z)) operations → s ≤ℤ z) → IsLeastPositive (λ s. (x : ℤ) × ((y : ℤ) × InLattice n operations (triple x y s))) s
-  unfolding InLattice residue
+  unfolding InLattice modulo
   least_third s x y p h top f = record { positive = p; it_holds = (x, (y, h)); least = λ t q k. by t k.0 k.1.0 q k.1.1 (up_to t) }
     where
-      by : (t x y : ℤ) → pos 0 <ℤ t → IsMember (pure_translation (residue n (triple x y t))) operations → (t <ℤ pos n) ⊎ (pos n ≤ℤ t) → s ≤ℤ t
+      by : (t x y : ℤ) → pos 0 <ℤ t → IsMember (pure_translation (modulo n (triple x y t))) operations → (t <ℤ pos n) ⊎ (pos n ≤ℤ t) → s ≤ℤ t
       by t x y q k (inl l) = f (int_rem_euclid x (pos n)) (int_rem_euclid y (pos n)) t q (subst (λ (v : Triple). IsMember (pure_translation v) operations) (triple_same refl refl (rest_itself t (weaken_lt (pos 0) t q) l)) k)
       by t x y q k (inr l) = through s t top l

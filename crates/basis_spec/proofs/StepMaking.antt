@@ -7,7 +7,7 @@ use Rattle.std.proofs.lemmas.Int.{ints}
 use Rattle.ring.specs.Ring.{var, con, ◌:+◌, ◌:*◌}
 use Rattle.crystal_spec.specs.Matrices.{Triple, Matrix, multiple}
 use Rattle.basis_spec.specs.StepBases.{IsLattice, IsLeastPositive, IsStepBasis}
-use Rattle.basis_spec.specs.Positions.{triple}
+use Rattle.positions.specs.Positions.{triple}
 use Rattle.crystal_spec.proofs.Entrywise.{triple_same}
 use Rattle.basis_spec.proofs.StepBases.{divided, no_rest, taken_away, nothing_off, multiple_in}
 use Rattle.crystal_spec.proofs.Identities.{by_integers}

@@ -9,7 +9,7 @@ use Rattle.ring.proofs.IntOrder.{weaken_lt, mul_pos, mul_nonneg, nonneg_of_mul, 
 use Rattle.matrix3.specs.Matrices.{EachEntry}
 use Rattle.crystal_spec.specs.Matrices.{Triple, Matrix, image, determinant, multiple}
 use Rattle.basis_spec.specs.StepBases.{IsLattice, IsStepBasis}
-use Rattle.basis_spec.specs.Positions.{triple}
+use Rattle.positions.specs.Positions.{triple}
 use Rattle.crystal_spec.proofs.Entrywise.{triple_same}
 use Rattle.basis_spec.proofs.MatrixLaws.{axis1, axis2, axis3, columns_of}
 use Rattle.basis_spec.proofs.Cancelling.{mul_cancel}

@@ -2,37 +2,24 @@
 --
 -- A strictly increasing list has no repeats, so the list of pure translations, as triples, has each once. It is closed
 -- under sums modulo n, and the lattice that it stands for is that of all translations.
-use Rattle.std.proofs.Common.{◌≡◌, ℕ, pos, ◌<ℤ◌, ◌≤◌, List, [], ◌∷◌, map, length, refl, sym, ap, subst, ◌∙◌, inl, inr}
+use Rattle.std.proofs.Common.{ℕ, pos, ◌<ℤ◌, ◌≤◌, List, map, length, refl, sym, ap, subst, ◌∙◌}
 use Rattle.std.specs.Prelude.{◌↔◌}
-use Rattle.std.specs.declared.cmp.Ordering.{Ordering}
-use Rattle.std.specs.declared.cmp.Ordering.TheVariants.{Less}
-use Rattle.std.specs.Cmp.{IsTotalOrder}
-use Rattle.std.proofs.lemmas.Cmp.{tied_itself}
 use Rattle.std.proofs.lemmas.List.{length-map}
+use Rattle.lists.specs.Increasing.{IsMember, IsDistinct}
+use Rattle.lists.proofs.Members.{mapped_from, mapped_member}
+use Rattle.lists.proofs.Distinct.{IsDistinct-mapped}
+use Rattle.lists.proofs.Increasing.{increasing_distinct}
 use Rattle.crystal_spec.specs.Matrices.{Triple, multiple, sum_of}
 use Rattle.crystal_spec.specs.Crystals.{Structure}
-use Rattle.crystal_spec.specs.Increasing.{IsMember, IsBelowAll, IsIncreasing, IsDistinct}
 use Rattle.crystal_spec.specs.Operations.{Operation, compare_of, IsWithinCell, IsSymmetryOperation}
 use Rattle.crystal_spec.proofs.Ordered.{compare_total}
-use Rattle.basis_spec.specs.Positions.{origin, residue}
+use Rattle.positions.specs.Positions.{origin, modulo}
 use Rattle.basis_spec.specs.Translations.{IsTranslation, IsPureTranslation, pure_translation, ListsPureTranslations, IsRarest}
 use Rattle.basis_spec.specs.StepBases.{InLattice, IsClosed}
-use Rattle.basis_spec.proofs.Residues.{residue_away, residue_within}
-use Rattle.basis_spec.proofs.FirstAtoms.{mapped_from, mapped_member}
-use Rattle.basis_spec.proofs.Counting.{mapped_once}
+use Rattle.positions.proofs.Residues.{modulo_away, modulo_within}
 use Rattle.basis_spec.proofs.OperationBases.{cells_translation}
 use Rattle.basis_spec.proofs.PrimitiveCell.{translation_sum, residue_translation}
 use Rattle.basis_spec.proofs.PureTranslations.{pure_zero, pure_sum, rarest_translations}
-
-below_member : {X : Type 0} (cmp : X → X → Ordering) (x z : X) (ys : List X) → IsBelowAll cmp x ys → IsMember z ys → cmp x z ≡ Less
-below_member cmp x z [] h m = absurd m
-below_member {X} cmp x z (y ∷ ys) h (inl e) = subst (λ (a : X). cmp x a ≡ Less) (sym e) h.0
-below_member cmp x z (y ∷ ys) h (inr m) = below_member cmp x z ys h.1 m
-
--- a strictly increasing list has no repeats
-pub increasing_distinct : {X : Type 0} (cmp : X → X → Ordering) → IsTotalOrder cmp → (xs : List X) → IsIncreasing cmp xs → IsDistinct xs
-increasing_distinct cmp t [] h = tt
-increasing_distinct cmp t (x ∷ xs) h = ((λ m. cc (sym (below_member cmp x x xs h.0 m) ∙ tied_itself t x)), increasing_distinct cmp t xs h.1)
 
 -- the translation parts of a list of operations
 abbrev pub translations_of : List Operation → List Triple
@@ -51,7 +38,7 @@ module _ (c : Structure) (os : List Operation) (a : ListsPureTranslations c os) 
 
   -- the list as triples has none twice
   pub translations_once : IsDistinct (translations_of os)
-  translations_once = mapped_once (λ o. o.translation) os (increasing_distinct compare_of compare_total os a.increasing)
+  translations_once = IsDistinct-mapped (λ o. o.translation) os (increasing_distinct compare_of compare_total os a.increasing)
       (λ o p m k e. ((a.exact o).0 m).0 ∙ ap pure_translation e ∙ sym ((a.exact p).0 k).0)
 
   -- and exactly the pure translations
@@ -73,14 +60,14 @@ module _ (c : Structure) (os : List Operation) (a : ListsPureTranslations c os) 
   pub pure_closed : pos 0 <ℤ pos c.n → IsClosed c.n os
   pure_closed some = record {
     zero_in = member_of_pure origin (pure_zero c some);
-    sums = λ t u m k. member_of_pure (residue c.n (sum_of t u)) (pure_sum c t u some (pure_of_member (pure_translation t) m) (pure_of_member (pure_translation u) k));
+    sums = λ t u m k. member_of_pure (modulo c.n (sum_of t u)) (pure_sum c t u some (pure_of_member (pure_translation t) m) (pure_of_member (pure_translation u) k));
   }
 
   -- the lattice of the list is that of all translations
   pub lattice_is : pos 0 <ℤ pos c.n → (t : Triple) → InLattice c.n os t ↔ IsTranslation c t
   unfolding InLattice
   lattice_is some t = (
-    (λ h. let d = residue_away c.n t some in
-        subst (IsTranslation c) (sym d.is) (translation_sum c (residue c.n t) (multiple (pos c.n) d.cells) (pure_of_member (pure_translation (residue c.n t)) h).keeps (cells_translation c d.cells))),
-    (λ h. member_of_pure (residue c.n t) (record { translation = residue_within c.n t some; keeps = residue_translation c t some h })),
+    (λ h. let d = modulo_away c.n t some in
+        subst (IsTranslation c) (sym d.is) (translation_sum c (modulo c.n t) (multiple (pos c.n) d.cells) (pure_of_member (pure_translation (modulo c.n t)) h).keeps (cells_translation c d.cells))),
+    (λ h. member_of_pure (modulo c.n t) (record { translation = modulo_within c.n t some; keeps = residue_translation c t some h })),
   )

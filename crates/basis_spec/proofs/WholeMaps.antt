@@ -65,11 +65,11 @@ pub record IsWholeMap (c c' : Structure) (b : Matrix) (translation : Triple) (d 
 above_zero : (d : ℕ) → pos 1 ≤ℤ pos d → pos 0 <ℤ pos d
 above_zero d h = omega (arith, ints)
 
--- the sign of a positive multiple of 1 or -1
 negative_part : (n : ℕ) → pos (suc n) *ℤ negsuc 0 ≡ negsuc n
 negative_part n = omega (arith, ints)
 
-sign_of_unit : (k a : ℤ) → pos 0 <ℤ k → a *ℤ a ≡ pos 1 → sign_of (k *ℤ a) ≡ a
+-- the sign of a positive multiple of 1 or -1
+pub sign_of_unit : (k a : ℤ) → pos 0 <ℤ k → a *ℤ a ≡ pos 1 → sign_of (k *ℤ a) ≡ a
 sign_of_unit (negsuc n) a p e = absurd p.lt
 sign_of_unit (pos zero) a p e = absurd (omega (arith, ints))
 sign_of_unit (pos (suc n)) (pos zero) p e = absurd (omega (arith, ints))

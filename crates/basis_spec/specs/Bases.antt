@@ -13,7 +13,7 @@ use Rattle.crystal_spec.specs.declared.MomentKind.{MomentKind}
 use Rattle.crystal_spec.specs.Matrices.{Triple, Matrix, product, image, determinant, adjugate, identity}
 use Rattle.crystal_spec.specs.Moments.{turn_matrix}
 use Rattle.crystal_spec.specs.Crystals.{Site, Structure, Occupied}
-use Rattle.basis_spec.specs.Positions.{IsWholeCells, residue}
+use Rattle.positions.specs.Positions.{IsWholeCells, modulo}
 use Rattle.basis_spec.specs.Metrics.{matrix_multiple, metric_in}
 use Rattle.basis_spec.specs.Translations.{IsPrimitive}
 
@@ -63,7 +63,7 @@ first_at_each_position (a ∷ sites) = a ∷ without_position a.position (first_
 
 -- the atom a in the basis to which R takes coordinates, brought into the cell
 abbrev pub site_in_basis : ℕ → MomentKind → Matrix → Site → Site
-site_in_basis n kind r a = record { species = a.species; position = residue n (image r a.position); moment = image (turn_matrix kind r) a.moment }
+site_in_basis n kind r a = record { species = a.species; position = modulo n (image r a.position); moment = image (turn_matrix kind r) a.moment }
 
 -- The cell in the basis to which R takes coordinates: Prim(C, R), where that basis is one of all translations. adj(R) is
 -- det(R) · P, so the metric tensor and its scale are those of Pᵀ G P, each times det(R)².

@@ -3,12 +3,12 @@
 --   KeepsAny c b t d sign           the map ((B, t) / d, sign) is an isometry that carries the crystal onto itself
 --   IsListed n os b t d sign        the map is one of integers, and the list os has it
 use Rattle.std.specs.Prelude.{◌≡◌, ℕ, ℤ, pos, List}
+use Rattle.lists.specs.Increasing.{IsMember}
 use Rattle.crystal_spec.specs.declared.Sign.{Sign}
 use Rattle.crystal_spec.specs.Matrices.{Triple, Matrix, product, image, multiple}
 use Rattle.crystal_spec.specs.Crystals.{Structure}
-use Rattle.crystal_spec.specs.Increasing.{IsMember}
 use Rattle.crystal_spec.specs.Operations.{Operation, IsWithinCell}
-use Rattle.basis_spec.specs.Positions.{residue}
+use Rattle.positions.specs.Positions.{modulo}
 use Rattle.basis_spec.specs.Metrics.{matrix_multiple}
 use Rattle.basis_spec.specs.Maps.{TakesAny}
 
@@ -17,7 +17,7 @@ pub record IsCarried (n : ℕ) (r : Matrix) (os : List Operation) (o : Operation
   pub translation : IsWithinCell n o.translation
   pub matrix : Matrix
   pub turned : product matrix r ≡ product r o.matrix
-  pub of_list : IsMember (record { matrix = matrix; translation = residue n (image r o.translation); sign = o.sign }) os
+  pub of_list : IsMember (record { matrix = matrix; translation = modulo n (image r o.translation); sign = o.sign }) os
 
 -- an affine isometry with fractions that carries the crystal onto itself: a map onto itself
 abbrev pub KeepsAny : Structure → Matrix → Triple → ℕ → ℤ → Type 0
@@ -29,4 +29,4 @@ pub record IsListed (n : ℕ) (os : List Operation) (b : Matrix) (t : Triple) (d
   pub whole_translation : Triple
   pub matrix_is : b ≡ matrix_multiple (pos d) matrix
   pub translation_is : t ≡ multiple (pos d) whole_translation
-  pub of_list : IsMember (record { matrix = matrix; translation = residue n whole_translation; sign = sign }) os
+  pub of_list : IsMember (record { matrix = matrix; translation = modulo n whole_translation; sign = sign }) os

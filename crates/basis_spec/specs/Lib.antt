@@ -1,4 +1,3 @@
-pub mod Positions
 pub mod Metrics
 pub mod Translations
 pub mod Bases

@@ -6,10 +6,10 @@
 --   InLattice n os t                t is a pure translation of the list os, but for whole cells
 --   IsClosed n os                   the pure translations of os hold (0, 0, 0) and their sums modulo n
 use Rattle.std.specs.Prelude.{◌≡◌, ℕ, ℤ, pos, negsuc, ◌*ℤ◌, ◌≤ℤ◌, ◌<ℤ◌, List}
+use Rattle.lists.specs.Increasing.{IsMember}
 use Rattle.crystal_spec.specs.Matrices.{Triple, Matrix, product, identity, multiple, sum_of}
-use Rattle.crystal_spec.specs.Increasing.{IsMember}
 use Rattle.crystal_spec.specs.Operations.{Operation}
-use Rattle.basis_spec.specs.Positions.{triple, origin, residue}
+use Rattle.positions.specs.Positions.{triple, origin, modulo}
 use Rattle.basis_spec.specs.Metrics.{matrix_multiple}
 use Rattle.basis_spec.specs.Translations.{pure_translation}
 
@@ -50,9 +50,9 @@ pub record IsSteps (n : ℕ) (in_it : Triple → Type 0) (index : ℕ) (back for
 
 -- the pure translations of a list, and all triples that differ from one by whole cells
 unfoldable pub InLattice : ℕ → List Operation → Triple → Type 0
-InLattice n os t = IsMember (pure_translation (residue n t)) os
+InLattice n os t = IsMember (pure_translation (modulo n t)) os
 
 -- the pure translations of the list hold (0, 0, 0), and with each two their sum modulo n
 pub record IsClosed (n : ℕ) (os : List Operation) : Type 0 where
   pub zero_in : IsMember (pure_translation origin) os
-  pub sums : (t u : Triple) → IsMember (pure_translation t) os → IsMember (pure_translation u) os → IsMember (pure_translation (residue n (sum_of t u))) os
+  pub sums : (t u : Triple) → IsMember (pure_translation t) os → IsMember (pure_translation u) os → IsMember (pure_translation (modulo n (sum_of t u))) os

@@ -8,12 +8,12 @@
 --   of_species s sites            the atoms of a species
 --   IsRarest c count              count is the least number of atoms of c that share a species
 use Rattle.std.specs.Prelude.{◌≡◌, ◌↔◌, ℕ, pos, eqb, true, false, ◌≤◌, List, [], ◌∷◌, length}
+use Rattle.lists.specs.Increasing.{IsIncreasing, IsMember}
 use Rattle.crystal_spec.specs.declared.Sign.TheVariants.{Same}
 use Rattle.crystal_spec.specs.Matrices.{Triple, identity}
 use Rattle.crystal_spec.specs.Crystals.{Site, Structure, Keeps}
-use Rattle.crystal_spec.specs.Increasing.{IsIncreasing, IsMember}
 use Rattle.crystal_spec.specs.Operations.{Operation, compare_of, IsWithinCell, IsSymmetryOperation}
-use Rattle.basis_spec.specs.Positions.{origin, IsWholeCells}
+use Rattle.positions.specs.Positions.{origin, IsWholeCells}
 
 -- the translation by t, which may be any triple, carries the crystal onto itself
 abbrev pub IsTranslation : Structure → Triple → Type 0

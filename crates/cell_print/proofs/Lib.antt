@@ -1,13 +1,13 @@
-pub mod TextLemmas
+mod TextLemmas
 pub mod TextCuts
 pub mod CommonDenominators
-pub mod LeastUnits
-pub mod SpelledPrintable
-pub mod NamesRead
-pub mod FirstLines
-pub mod PrintedLines
-pub mod ReadLines
-pub mod PlacesApart
-pub mod JudgedText
-pub mod SpelledCell
+mod LeastUnits
+mod SpelledPrintable
+mod NamesRead
+mod FirstLines
+mod PrintedLines
+mod ReadLines
+mod PlacesApart
+mod JudgedText
+mod SpelledCell
 mod KnownValues

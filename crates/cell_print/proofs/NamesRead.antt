@@ -4,7 +4,8 @@ use Rattle.std.specs.List.{list_any}
 use Rattle.std.specs.Cmp.Lexicographic.{same_text}
 use Rattle.std.proofs.lemmas.Bool.{eq-eqb, or_left, or_right, or_from, false_from_ne_true}
 use Rattle.std.proofs.Math.Seq.{take-suc, take-length}
-use Rattle.crystal_spec.specs.Increasing.{IsMember, IsDistinct}
+use Rattle.lists.specs.Increasing.{IsMember, IsDistinct}
+use Rattle.lists.proofs.Members.{member_index}
 use Rattle.crystal_spec.specs.Crystals.{Site}
 use Rattle.crystal.specs.Numbering.{AreByFirstUse}
 use Rattle.cell_text.specs.Lines.{same_word}
@@ -15,15 +16,10 @@ same_self : (w : List ℕ) → same_word w w ≡ true
 same_self [] = refl
 same_self (b ∷ w) = rw (eq-eqb b b refl, same_self w) refl
 
-member_at : (names : List (List ℕ)) (i : ℕ) → i < length names → IsMember (get_or names i []) names
-member_at [] i h = absurd (omega arith)
-member_at (x ∷ xs) zero h = inl refl
-member_at (x ∷ xs) (suc i) h = inr (member_at xs i (omega arith))
-
 -- a later name is not the first
 not_first : (x : List ℕ) (xs : List (List ℕ)) (i : ℕ) → (IsMember x xs → ⊥) → i < length xs → same_word (get_or xs i []) x ≡ false
 not_first x xs i new h =
-    false_from_ne_true (same_word (get_or xs i []) x) (λ e. new (subst (λ (w : List ℕ). IsMember w xs) (same_text (get_or xs i []) x (sym e)) (member_at xs i h)))
+    false_from_ne_true (same_word (get_or xs i []) x) (λ e. new (subst (λ (w : List ℕ). IsMember w xs) (same_text (get_or xs i []) x (sym e)) (member_index xs i [] h)))
 
 used_before : (names : List (List ℕ)) (used i : ℕ) → i < used → i < length names → list_any (same_word (get_or names i [])) (take used names) ≡ true
 used_before [] used i h below = absurd (omega arith)

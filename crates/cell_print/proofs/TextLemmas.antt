@@ -2,10 +2,10 @@
 use Rattle.std.proofs.Common.{◌≡◌, ℕ, ◌+◌, List, [], ◌∷◌, ◌++◌, get_or, drop, Some, sym, ap, ◌∙◌, append_assoc}
 use Rattle.std.specs.Prelude.{slice_get}
 use Rattle.std.proofs.lemmas.Option.{get_or_from_slice_get}
+use Rattle.lists.proofs.Walks.{drop_at}
 use Rattle.crystal_spec.specs.declared.MomentKind.{MomentKind}
 use Rattle.crystal_spec.specs.Crystals.{Site, Structure}
 use Rattle.crystal_spec.specs.Matrices.{Matrix}
-use Rattle.crystal.proofs.ImageLemmas.{drop_at}
 use Rattle.plain_text.specs.NumberText.{numbers_text}
 use Rattle.cell_print.specs.CellFileText.{heading_text, scalar_products, metric_text, position_text, moment_text, atom_text, atoms_text, cell_lines_text, cell_file_text}
 

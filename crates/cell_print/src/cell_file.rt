@@ -1,7 +1,8 @@
 // The lines of a cell file.
 ghost use Rattle.std.specs.Prelude.{◌≡◌, ◌++◌, List, ℕ, IfOk, OnOk, OnErr, length, ◌<◌, ◌≤◌};
 ghost use Rattle.crystal_spec.specs.Crystals.{Structure};
-ghost use Rattle.crystal.specs.Views.{metric_of, site_of, triple_of};
+ghost use Rattle.crystal.specs.Views.{metric_of, site_of};
+ghost use Rattle.positions.specs.Positions.{triple_of};
 ghost use Rattle.cell_text.specs.CellFile.{Spells};
 ghost use Rattle.cell_print.specs.Printable.{IsPrintable};
 ghost use Rattle.cell_print.specs.CellFileText.{heading_text, kind_text, scalar_products, position_text, metric_text, moment_text, atom_text, atoms_text, metric_and_atoms_text, cell_lines_text, cell_file_text};

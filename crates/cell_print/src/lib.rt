@@ -9,6 +9,3 @@ mod cell_file;
 pub use cell_file::{
     print_cell, push_cell, push_heading, push_name, push_products, spelled_is_printable,
 };
-
-#[cfg(test)]
-mod tests;

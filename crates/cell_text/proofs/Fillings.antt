@@ -2,8 +2,8 @@
 use Rattle.std.proofs.Common.{◌≡◌, ℕ, zero, suc, ◌+◌, ◌<◌, ◌≤◌, List, [], ◌∷◌, ◌++◌, length, map, take, drop, get_or, refl, sym, ap, subst, ◌∙◌, arith, add-one, length-append, length-drop, ◌-◌}
 use Rattle.std.specs.Prelude.{pos, false, ◌/◌}
 use Rattle.std.proofs.Math.IntN.{zero-*ℤ}
-use Rattle.std.proofs.lemmas.List.{map-append, length-map, take_rest}
-use Rattle.crystal_spec.specs.Increasing.{IsMember}
+use Rattle.std.proofs.lemmas.List.{map-append, length-map, take_rest, take_all}
+use Rattle.lists.specs.Increasing.{IsMember}
 use Rattle.crystal_spec.specs.declared.MomentKind.{MomentKind}
 use Rattle.crystal_spec.specs.Moments.{axial_vectors, IsOfKind}
 use Rattle.crystal_spec.specs.Matrices.{Triple}
@@ -94,16 +94,10 @@ first_at (a ∷ atoms) x h e = (ap (λ (z : CodeAtom). atom_view z ∷ []) (sym 
 pub next_at : (atoms : List CodeAtom) (i : ℕ) (x : CodeAtom) → (suc i < length atoms) × (get_or atoms (suc i) x ≡ x) → map atom_view (take (suc (i + 1)) atoms) ≡ map atom_view (take (suc i) atoms) ++ atom_view x ∷ []
 next_at atoms i x h = ap (λ (j : ℕ). map atom_view (take (suc j) atoms)) (add-one i) ∙ take_suc atoms (suc i) x h.0 h.1
 
-take_past : (xs : List CodeAtom) (n : ℕ) → length xs ≤ n → take n xs ≡ xs
-take_past [] zero h = refl
-take_past [] (suc n) h = refl
-take_past (x ∷ xs) zero h = absurd (omega arith)
-take_past (x ∷ xs) (suc n) h = ap (λ (ys : List CodeAtom). x ∷ ys) (take_past xs n (omega arith))
-
 pub all_taken : (atoms : List CodeAtom) (i : ℕ) → length (take (length atoms - 1) (drop 1 atoms)) ≤ i → map atom_view atoms ≡ map atom_view (take (suc i) atoms)
 all_taken atoms i h =
     let rest : take (length atoms - 1) (drop 1 atoms) ≡ drop 1 atoms = take_rest atoms 1 in
-    ap (map atom_view) (sym (take_past atoms (suc i) (omega (arith, h, ap length rest, length-drop 1 atoms))))
+    ap (map atom_view) (sym (take_all (suc i) atoms (omega (arith, h, ap length rest, length-drop 1 atoms))))
 
 pub filled_first : (kind : MomentKind) (metric : ScaledMetric) (n k : ℕ) (all : List AtomLine) (b : AtomLine) (later : List AtomLine) → all ≡ b ∷ later → made kind metric n k (b.name ∷ []) (record { species = 0; position = position_of n b; moment = moment_of k b } ∷ []) ≡ filled kind metric n k all (b ∷ [])
 unfolding names_of

@@ -1,13 +1,13 @@
 mod KnownValues
-pub mod Minors
+mod Minors
 pub mod WordFaults
-pub mod Atoms
-pub mod Placing
+mod Atoms
+mod Placing
 pub mod Judging
-pub mod Stepping
+mod Stepping
 pub mod MetricLines
-pub mod FirstUse
-pub mod Apart
+mod FirstUse
+mod Apart
 pub mod NameLemmas
-pub mod Fillings
+mod Fillings
 pub mod PassedLines

@@ -12,7 +12,7 @@ use Rattle.ring.proofs.Sizes.{at_most_mul, at_most_add, at_most_neg, weaken}
 use Rattle.matrix3.specs.Matrices.{minor}
 use Rattle.matrix3.specs.Fits.{MinorFits, DeterminantFits}
 use Rattle.crystal_spec.specs.Matrices.{Matrix}
-use Rattle.crystal.specs.Bounds.{EntriesAtMost}
+use Rattle.matrix3.specs.Bounds.{EntriesAtMost}
 
 -- a two-term determinant of entries up to 10^9
 minor_size : {a b c d : ℤ} → AtMost (10 ^ 9) a → AtMost (10 ^ 9) b → AtMost (10 ^ 9) c → AtMost (10 ^ 9) d → AtMost (2 * 10 ^ 18) (minor int_ops a b c d)

@@ -6,8 +6,8 @@ use Rattle.std.specs.List.{fold, list_any, position_or_len}
 use Rattle.std.proofs.lemmas.Bool.{eq-eqb}
 use Rattle.std.proofs.lemmas.List.Folds.{list_any-append}
 use Rattle.std.proofs.Math.Bool.{or-true}
+use Rattle.lists.specs.Increasing.{IsMember}
 use Rattle.crystal_spec.specs.Crystals.{Structure}
-use Rattle.crystal_spec.specs.Increasing.{IsMember}
 use Rattle.crystal.specs.Numbering.{AreByFirstUse}
 use Rattle.plain_text.specs.Text.{lines}
 use Rattle.cell_text.specs.Lines.{same_word}

@@ -24,8 +24,6 @@ mod read;
 mod reader;
 mod scaled_metric;
 mod site;
-#[cfg(test)]
-mod tests;
 pub mod texts;
 mod three;
 mod version;

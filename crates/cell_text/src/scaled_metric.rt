@@ -1,7 +1,7 @@
 // A metric tensor with its scale. Its functions stand in `metric.rt`: their contracts cite definitions that see this type.
 ghost use Rattle.std.specs.Prelude.{◌<◌, ◌≤◌, ◌^◌};
 ghost use Rattle.crystal.specs.Views.{metric_of};
-ghost use Rattle.crystal.specs.Bounds.{EntriesAtMost};
+ghost use Rattle.matrix3.specs.Bounds.{EntriesAtMost};
 
 use crystal::Metric;
 

@@ -2,8 +2,8 @@
 ghost use Rattle.std.specs.Prelude.{◌≡◌, ◌≤◌, ◌<◌, ◌*◌, ◌^◌, pos};
 ghost use Rattle.ring.specs.Size.{AtMost};
 ghost use Rattle.crystal_spec.specs.Operations.{IsWithinCell};
-ghost use Rattle.crystal.specs.Views.{triple_of};
-ghost use Rattle.crystal.specs.Bounds.{CoordinatesAtMost};
+ghost use Rattle.positions.specs.Positions.{triple_of};
+ghost use Rattle.matrix3.specs.Bounds.{CoordinatesAtMost};
 ghost use Rattle.plain_text.specs.NumberWords.{scaled};
 ghost use Rattle.cell_text.specs.CellFile.{part_of, position_of, moment_of};
 ghost use Rattle.plain_text.specs.Views.{fraction_of};

@@ -2,11 +2,11 @@
 use Rattle.std.proofs.Common.{◌≡◌, refl, ap, ◌∙◌, ℕ, ℤ, List, ◌∷◌, drop, slice_get, Some}
 use Rattle.std.specs.declared.result.Result.{Result}
 use Rattle.std.specs.declared.result.Result.TheVariants.{Ok, Err}
+use Rattle.lists.proofs.Walks.{drop_at}
 use Rattle.command_words.specs.declared.command.Command.{Command}
 use Rattle.command_words.specs.declared.command.Command.TheVariants.{Fill}
 use Rattle.command_words.specs.declared.command.UsageFault.{UsageFault}
 use Rattle.command_words.specs.Commands.{count_of, component_of, filling}
-use Rattle.command_words.proofs.OptionLemmas.{drop_here}
 
 -- the number of the atom and the components, once they are read, or the first fault
 abbrev pub filling_of : Result ℕ UsageFault → Result ℤ UsageFault → Result ℤ UsageFault → Result ℤ UsageFault → Result Command UsageFault
@@ -48,5 +48,5 @@ pub filling_at : (words : List (List ℕ)) (i a b c : List ℕ) (atom : Result �
     count_of i ≡ atom → component_of a ≡ x → component_of b ≡ y → component_of c ≡ z → filling (drop 1 words) ≡ filling_of atom x y z
 filling_at words i a b c atom x y z first second third fourth p q r s =
     let behind : drop 1 words ≡ i ∷ a ∷ b ∷ c ∷ drop 5 words =
-    drop_here words 1 i first ∙ ap (λ (l : List (List ℕ)). i ∷ l) (drop_here words 2 a second ∙ ap (λ (l : List (List ℕ)). a ∷ l) (drop_here words 3 b third ∙ ap (λ (l : List (List ℕ)). b ∷ l) (drop_here words 4 c fourth))) in
+    drop_at words 1 i first ∙ ap (λ (l : List (List ℕ)). i ∷ l) (drop_at words 2 a second ∙ ap (λ (l : List (List ℕ)). a ∷ l) (drop_at words 3 b third ∙ ap (λ (l : List (List ℕ)). b ∷ l) (drop_at words 4 c fourth))) in
     ap filling behind ∙ filling_read i a b c (drop 5 words) atom x y z p q r s

@@ -1,5 +1,5 @@
-pub mod FillingLemmas
+mod FillingLemmas
 mod KnownValues
-pub mod OptionLemmas
-pub mod OptionOrder
-pub mod SmallMoments
+mod OptionLemmas
+mod OptionOrder
+mod SmallMoments

@@ -1,17 +1,12 @@
 -- Reading options word by word.
-use Rattle.std.proofs.Common.{◌≡◌, refl, sym, ◌∙◌, ℕ, zero, suc, ◌+◌, List, [], ◌∷◌, drop, slice_get, Some, ap, add-one}
+use Rattle.std.proofs.Common.{◌≡◌, sym, ℕ, ◌+◌, List, ◌∷◌, drop, slice_get, Some, ap}
 use Rattle.std.specs.declared.result.Result.{Result}
 use Rattle.std.specs.declared.result.Result.TheVariants.{Ok, Err}
+use Rattle.lists.proofs.Walks.{drop_at}
 use Rattle.command_words.specs.declared.options.Options.{Options}
 use Rattle.command_words.specs.declared.command.Command.{Command}
 use Rattle.command_words.specs.declared.command.UsageFault.{UsageFault}
 use Rattle.command_words.specs.Commands.{with_word, options}
-
--- what is left from a word on is this word and what is left behind it
-pub drop_here : (words : List (List ℕ)) (i : ℕ) (word : List ℕ) → slice_get words i ≡ Some word → drop i words ≡ word ∷ drop (i + 1) words
-drop_here [] i word e = absurd cc
-drop_here (w ∷ ws) zero word e = cc
-drop_here (w ∷ ws) (suc i) word e = rw (add-one (suc i)) (drop_here ws i word e ∙ rw (add-one i) refl)
 
 -- what the options ask for once a word is read, or its fault
 abbrev pub after_word : List (List ℕ) → Result Options UsageFault → Result Command UsageFault
@@ -26,8 +21,8 @@ stop o word later fault e = ap (after_word later) e
 
 -- a word that is read leaves the words behind it
 pub options_go : (o read : Options) (words : List (List ℕ)) (i : ℕ) (word : List ℕ) → slice_get words i ≡ Some word → with_word o word ≡ Ok read → options read (drop (i + 1) words) ≡ options o (drop i words)
-options_go o read words i word here e = sym (rw (drop_here words i word here) (step o read word (drop (i + 1) words) e))
+options_go o read words i word here e = sym (rw (drop_at words i word here) (step o read word (drop (i + 1) words) e))
 
 -- the first fault is the fault of all
 pub options_stop : (o : Options) (words : List (List ℕ)) (i : ℕ) (word : List ℕ) (fault : UsageFault) → slice_get words i ≡ Some word → with_word o word ≡ Err fault → options o (drop i words) ≡ Err fault
-options_stop o words i word fault here e = rw (drop_here words i word here) (stop o word (drop (i + 1) words) fault e)
+options_stop o words i word fault here e = rw (drop_at words i word here) (stop o word (drop (i + 1) words) fault e)

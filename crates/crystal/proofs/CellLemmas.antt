@@ -1,8 +1,10 @@
 -- Cells with one name or one atom more, and what a cell's atoms are.
-use Rattle.std.proofs.Common.{◌≡◌, refl, sym, ap, subst, ◌∙◌, ◌⊎◌, inl, inr, ℕ, ◌+◌, ◌≤◌, ◌<◌, List, [], ◌∷◌, ◌++◌, length, arith, length-append}
+use Rattle.std.proofs.Common.{◌≡◌, refl, sym, ap, subst, ◌∙◌, inl, inr, ℕ, ◌+◌, ◌≤◌, ◌<◌, List, [], ◌∷◌, ◌++◌, length, arith}
 use Rattle.std.specs.Prelude.{pos, ◌<ℤ◌, slice_get, Some}
 use Rattle.std.proofs.lemmas.Int.{ints}
-use Rattle.crystal_spec.specs.Increasing.{IsMember, IsDistinct}
+use Rattle.std.proofs.lemmas.List.{length_push}
+use Rattle.lists.specs.Increasing.{IsMember, IsDistinct}
+use Rattle.lists.proofs.Distinct.{IsDistinct-pushed}
 use Rattle.crystal_spec.specs.declared.MomentKind.{MomentKind}
 use Rattle.crystal_spec.specs.Matrices.{Triple, Matrix, transposed}
 use Rattle.crystal_spec.specs.Crystals.{Site, Structure}
@@ -30,30 +32,9 @@ apart_more : (xs : List Site) (x : Site) → AreApart xs → NoneAt x.position x
 apart_more [] x h k = (tt, tt)
 apart_more (y ∷ ys) x h k = (none_more y.position ys x h.0 (λ e. k.0 (sym e)), apart_more ys x h.1 k.1)
 
-member_more : {X : Type 0} (x y : X) (xs : List X) → IsMember y (xs ++ x ∷ []) → IsMember y xs ⊎ (y ≡ x)
-member_more x y [] (inl e) = inr e
-member_more x y [] (inr m) = absurd m
-member_more x y (z ∷ zs) (inl e) = inl (inl e)
-member_more x y (z ∷ zs) (inr m) = by (member_more x y zs m)
-  where
-    by : IsMember y zs ⊎ (y ≡ x) → ((y ≡ z) ⊎ IsMember y zs) ⊎ (y ≡ x)
-    by (inl k) = inl (inr k)
-    by (inr e) = inr e
-
-distinct_more : {X : Type 0} (xs : List X) (x : X) → IsDistinct xs → (IsMember x xs → ⊥) → IsDistinct (xs ++ x ∷ [])
-distinct_more [] x h k = ((λ m. m), tt)
-distinct_more (y ∷ ys) x h k = ((λ m. by (member_more x y ys m)), distinct_more ys x h.1 (λ m. k (inr m)))
-  where
-    by : IsMember y ys ⊎ (y ≡ x) → ⊥
-    by (inl m) = h.0 m
-    by (inr e) = k (inl (sym e))
-
 first_more : (xs : List Site) (x s : Site) → 1 ≤ length xs → slice_get (xs ++ x ∷ []) 0 ≡ Some s → slice_get xs 0 ≡ Some s
 first_more [] x s h e = absurd (omega arith)
 first_more (y ∷ ys) x s h e = e
-
-length_more : {X : Type 0} (xs : List X) (x : X) → length (xs ++ x ∷ []) ≡ length xs + 1
-length_more xs x = length-append xs (x ∷ [])
 
 -- a cell with one atom more
 pub atom_more : (c : Structure) (x : Site) → IsCellWithinLimits c → IsSiteOf (length c.names) c.n c.kind x → NoneAt x.position c.sites → length c.sites < MOST_ATOMS → IsCellWithinLimits (record c { sites = c.sites ++ x ∷ [] })
@@ -69,8 +50,8 @@ atom_more c x h k free few = record {
   k_at_most = h.k_at_most;
   names_differ = h.names_differ;
   few_names = h.few_names;
-  some = omega (arith, length_more c.sites x);
-  few = omega (arith, length_more c.sites x);
+  some = omega (arith, length_push c.sites x);
+  few = omega (arith, length_push c.sites x);
   first = λ s e. h.first s (first_more c.sites x s h.some e);
   sites = sites_more (length c.names) c.n c.kind c.sites x h.sites k;
   apart = apart_more c.sites x h.apart free;
@@ -88,12 +69,12 @@ name_more c name h new fewer = record {
   n_at_most = h.n_at_most;
   k_at_least = h.k_at_least;
   k_at_most = h.k_at_most;
-  names_differ = distinct_more c.names name h.names_differ new;
-  few_names = omega (arith, length_more c.names name, fewer);
+  names_differ = IsDistinct-pushed c.names name h.names_differ new;
+  few_names = omega (arith, length_push c.names name, fewer);
   some = h.some;
   few = h.few;
   first = h.first;
-  sites = subst (λ (m : ℕ). AreSitesOf m c.n c.kind c.sites) (sym (length_more c.names name)) (named_more (length c.names) c.n c.kind c.sites h.sites);
+  sites = subst (λ (m : ℕ). AreSitesOf m c.n c.kind c.sites) (sym (length_push c.names name)) (named_more (length c.names) c.n c.kind c.sites h.sites);
   apart = h.apart;
 }
 

@@ -4,12 +4,15 @@ use Rattle.std.specs.Prelude.{if◌then◌else◌, nat_eq, ◌||◌, Option, Som
 use Rattle.std.specs.List.{list_any}
 use Rattle.std.specs.Cmp.Lexicographic.{pointwise, same_text}
 use Rattle.std.proofs.lemmas.Cmp.{nat_list_eq_equiv}
-use Rattle.std.proofs.lemmas.List.{take_more, take_all}
+use Rattle.std.proofs.lemmas.List.{take_all}
+use Rattle.lists.specs.Increasing.{IsMember}
+use Rattle.lists.proofs.Members.{member_last, member_front}
+use Rattle.lists.proofs.Walks.{member_taken}
 use Rattle.indexmap.specs.IndexSet.{insert_key}
-use Rattle.crystal_spec.specs.Increasing.{IsMember}
 use Rattle.crystal_spec.specs.Crystals.{Site}
 use Rattle.crystal.specs.declared.atom.Atom as code
-use Rattle.crystal.specs.Views.{site_of, triple_of}
+use Rattle.crystal.specs.Views.{site_of}
+use Rattle.positions.specs.Positions.{triple_of}
 use Rattle.crystal.specs.Covering.{IsListed}
 use Rattle.crystal.specs.Occupants.{NoneAt}
 use Rattle.crystal.proofs.Positions.{same_list}
@@ -42,50 +45,31 @@ pub lacks_none : (r : Option ℕ) (p : List ℕ) (ks : List (List ℕ)) → is_s
 lacks_none (Some i) p ks e = tt
 lacks_none None p ks e = λ m. let found = member_any p ks m in absurd (cc (e, found))
 
-member_last : (p : List ℕ) (ks : List (List ℕ)) → IsMember p (ks ++ p ∷ [])
-member_last p [] = inl refl
-member_last p (k ∷ ks) = inr (member_last p ks)
-
-member_before : (q p : List ℕ) (ks : List (List ℕ)) → IsMember q ks → IsMember q (ks ++ p ∷ [])
-member_before q p [] m = absurd m
-member_before q p (k ∷ ks) (inl e) = inl e
-member_before q p (k ∷ ks) (inr m) = inr (member_before q p ks m)
-
 -- a position that is put in is listed, and what was listed stays
 pub inserted_member : (p : List ℕ) (ks : List (List ℕ)) → IsMember p (insert_key same_place ks p)
 inserted_member p ks = by (list_any (same_place p) ks) refl
   where
     by : (b : Bool) → list_any (same_place p) ks ≡ b → IsMember p (insert_key same_place ks p)
     by true e = subst (IsMember p) (sym (ap (λ (c : Bool). if c then ks else ks ++ p ∷ []) e)) (any_member p ks e)
-    by false e = subst (IsMember p) (sym (ap (λ (c : Bool). if c then ks else ks ++ p ∷ []) e)) (member_last p ks)
+    by false e = subst (IsMember p) (sym (ap (λ (c : Bool). if c then ks else ks ++ p ∷ []) e)) (member_last ks p)
 
 pub inserted_stays : (p q : List ℕ) (ks : List (List ℕ)) → IsMember q ks → IsMember q (insert_key same_place ks p)
 inserted_stays p q ks m = by (list_any (same_place p) ks) refl
   where
     by : (b : Bool) → list_any (same_place p) ks ≡ b → IsMember q (insert_key same_place ks p)
     by true e = subst (IsMember q) (sym (ap (λ (c : Bool). if c then ks else ks ++ p ∷ []) e)) m
-    by false e = subst (IsMember q) (sym (ap (λ (c : Bool). if c then ks else ks ++ p ∷ []) e)) (member_before q p ks m)
-
-mapped_last : (a : Site) (xs : List code.Atom) (x : code.Atom) → IsMember a (map site_of (xs ++ x ∷ [])) → IsMember a (map site_of xs) ⊎ (a ≡ site_of x)
-mapped_last a [] x (inl e) = inr e
-mapped_last a [] x (inr m) = absurd m
-mapped_last a (y ∷ xs) x (inl e) = inl (inl e)
-mapped_last a (y ∷ xs) x (inr m) = by (mapped_last a xs x m)
-  where
-    by : IsMember a (map site_of xs) ⊎ (a ≡ site_of x) → IsMember a (map site_of (y ∷ xs)) ⊎ (a ≡ site_of x)
-    by (inl h) = inl (inr h)
-    by (inr h) = inr h
+    by false e = subst (IsMember q) (sym (ap (λ (c : Bool). if c then ks else ks ++ p ∷ []) e)) (member_front ks p q m)
 
 -- with the position of the next atom put in, one more atom is listed
 pub next_listed : (xs : List code.Atom) (i : ℕ) (x : code.Atom) (ks js : List (List ℕ)) → i < length xs → get_or xs i x ≡ x → length x.place ≡ 3 → IsMember x.place js → ((p : List ℕ) → IsMember p ks → IsMember p js) →
     ((a : Site) → IsMember a (map site_of (take i xs)) → IsListed ks a) → (a : Site) → IsMember a (map site_of (take (i + 1) xs)) → IsListed js a
-next_listed xs i x ks js h at three listed kept before a m = by (mapped_last a (take i xs) x (subst (λ (ys : List code.Atom). IsMember a (map site_of ys)) (take_more xs i x h ∙ ap (λ (y : code.Atom). take i xs ++ y ∷ []) at) m))
+next_listed xs i x ks js h at three listed kept before a m = by (member_taken site_of xs i x a h (sym at) m)
   where
-    by : IsMember a (map site_of (take i xs)) ⊎ (a ≡ site_of x) → IsListed js a
-    by (inl old) =
+    by : (a ≡ site_of x) ⊎ IsMember a (map site_of (take i xs)) → IsListed js a
+    by (inr old) =
         let l = before a old in
         record { place = l.place; three = l.three; is = l.is; listed = kept l.place l.listed }
-    by (inr new) = record { place = x.place; three = three; is = ap (λ (b : Site). b.position) new; listed = listed }
+    by (inl new) = record { place = x.place; three = three; is = ap (λ (b : Site). b.position) new; listed = listed }
 
 -- at the end all are
 pub all_listed : (xs : List code.Atom) (i : ℕ) (ks : List (List ℕ)) → length xs ≤ i →

@@ -1,34 +1,27 @@
 -- What the atom at a carried position says of the infinite crystal.
-use Rattle.std.proofs.Common.{◌≡◌, refl, sym, ap, subst, ◌∙◌, inl, inr, ℕ, zero, suc, ◌+◌, List, [], ◌∷◌, drop, add-one}
+use Rattle.std.proofs.Common.{◌≡◌, refl, sym, ap, subst, ◌∙◌, inl, inr, ℕ, List, [], ◌∷◌}
 use Rattle.std.specs.Prelude.{ℤ, pos, ◌*ℤ◌, ◌↔◌, slice_get, Some}
-use Rattle.crystal_spec.specs.Increasing.{IsMember}
+use Rattle.lists.specs.Increasing.{IsMember}
+use Rattle.lists.proofs.Members.{member_at}
 use Rattle.crystal_spec.specs.Matrices.{Matrix, Triple, multiple, sum_of}
 use Rattle.crystal_spec.specs.Moments.{moment_matrix}
 use Rattle.crystal_spec.specs.Crystals.{Site, Structure, Occupied, Keeps, KeepsMetric}
 use Rattle.crystal_spec.proofs.Images.{occupant_within, keeps_by_images, images_of_keeps}
 use Rattle.crystal.specs.Occupants.{IsOccupant, NoneAt}
 use Rattle.crystal.specs.Cells.{IsCellWithinLimits}
-use Rattle.crystal.specs.Carrying.{FoldsTo, HasImage, HaveImages}
+use Rattle.crystal.specs.Carrying.{HasImage, HaveImages}
+use Rattle.positions.specs.Positions.{modulo, IsModulo}
+use Rattle.positions.proofs.Residues.{is_modulo}
 use Rattle.crystal.proofs.CellLemmas.{apart_cell, none_member}
 
-pub member_at : (xs : List Site) (i : ℕ) (x : Site) → slice_get xs i ≡ Some x → IsMember x xs
-member_at [] i x e = absurd (cc e)
-member_at (y ∷ ys) zero x e = let is : x ≡ y = cc e in inl is
-member_at (y ∷ ys) (suc i) x e = inr (member_at ys i x e)
-
-drop_suc : (xs : List Site) (i : ℕ) (x : Site) → slice_get xs i ≡ Some x → drop i xs ≡ x ∷ drop (suc i) xs
-drop_suc [] i x e = absurd (cc e)
-drop_suc (y ∷ ys) zero x e = let is : y ≡ x = cc e in ap (λ z. z ∷ ys) is
-drop_suc (y ∷ ys) (suc i) x e = drop_suc ys i x e
-
-pub drop_at : (xs : List Site) (i : ℕ) (x : Site) → slice_get xs i ≡ Some x → drop i xs ≡ x ∷ drop (i + 1) xs
-drop_at xs i x e = drop_suc xs i x e ∙ ap (λ (k : ℕ). x ∷ drop k xs) (sym (add-one i))
-
 -- where an atom of the cell is at the position within the cell, that atom decides
-pub occupied_at : {T : Type 0} (c : Structure) → IsCellWithinLimits c → (s : ℕ) (p m q : Triple) (i : ℕ) (b : Site) → FoldsTo c.n p q → IsOccupant c.sites q i → slice_get c.sites i ≡ Some b →
+pub occupied_at : {T : Type 0} (c : Structure) → IsCellWithinLimits c → (s : ℕ) (p m q : Triple) (i : ℕ) (b : Site) → q ≡ modulo c.n p → IsOccupant c.sites q i → slice_get c.sites i ≡ Some b →
     T ↔ ((b.species ≡ s) × (b.moment ≡ m)) → T ↔ Occupied c s p m
-occupied_at {T} c cell s p m q i b f o e test = (forth, back)
+occupied_at {T} c cell s p m q i b at o e test = (forth, back)
   where
+    f : IsModulo c.n p q
+    f = is_modulo c.n p q cell.n_at_least at
+
     same : o.site ≡ b
     same = let k : Some o.site ≡ Some b = sym o.numbered ∙ e in cc k
 
@@ -47,13 +40,14 @@ occupied_at {T} c cell s p m q i b f o e test = (forth, back)
 
     back : Occupied c s p m → T
     back k =
-        let at = occupant_within c (apart_cell c cell) s p q m f.cells f.within f.same k in
-        let one = (apart_cell c cell).told b k.site (member_at c.sites i b e) k.of_cell (here ∙ sym at) in
+        let within = occupant_within c (apart_cell c cell) s p q m f.cells f.within f.same k in
+        let one = (apart_cell c cell).told b k.site (member_at c.sites i b e) k.of_cell (here ∙ sym within) in
         test.1 (ap (λ (a : Site). a.species) one ∙ k.same_species, ap (λ (a : Site). a.moment) one ∙ k.same_moment)
 
 -- where no atom is there, the position is not occupied
-pub unoccupied_at : (c : Structure) → IsCellWithinLimits c → (s : ℕ) (p m q : Triple) → FoldsTo c.n p q → NoneAt q c.sites → Occupied c s p m → ⊥
-unoccupied_at c cell s p m q f none k =
+pub unoccupied_at : (c : Structure) → IsCellWithinLimits c → (s : ℕ) (p m q : Triple) → q ≡ modulo c.n p → NoneAt q c.sites → Occupied c s p m → ⊥
+unoccupied_at c cell s p m q at none k =
+    let f = is_modulo c.n p q cell.n_at_least at in
     none_member q c.sites k.site none k.of_cell (occupant_within c (apart_cell c cell) s p q m f.cells f.within f.same k)
 
 pub image_member : (c : Structure) (w : Matrix) (t : Triple) (l : Matrix) (xs : List Site) (a : Site) → HaveImages c w t l xs → IsMember a xs → HasImage c w t l a

@@ -1,10 +1,8 @@
-pub mod NameLemmas
+mod NameLemmas
 pub mod Ranges
 pub mod Equality
 pub mod Positions
-pub mod Folding
-pub mod Actions
-pub mod Covering
+mod Covering
 pub mod CellLemmas
-pub mod ImageLemmas
+mod ImageLemmas
 mod KnownValues

@@ -2,7 +2,7 @@
 use Rattle.std.proofs.Common.{◌≡◌, ap, ℕ, List, [], ◌∷◌, length, arith, map}
 use Rattle.std.specs.Prelude.{pos, slice_index_or, slice_get, Some, ◌<◌, zero, suc}
 use Rattle.crystal_spec.specs.Matrices.{Triple}
-use Rattle.crystal.specs.Views.{triple_of}
+use Rattle.positions.specs.Positions.{triple_of}
 
 -- three numbers are told by their triple
 pub same_list : (p q : List ℕ) → length p ≡ 3 → length q ≡ 3 → triple_of p ≡ triple_of q → p ≡ q

@@ -1,17 +1,10 @@
 -- Where a map carries the atoms of a cell.
---   FoldsTo n p q               the position q is within the cell, and p differs from it by whole cells
 --   HasImage c w t l a          the map of matrix w and translation t, which acts on moments by l, carries the atom a to an
 --                               atom of its species with the carried moment
 --   HaveImages c w t l sites    it does so for each of these atoms
-use Rattle.std.specs.Prelude.{◌≡◌, ℕ, pos, List, [], ◌∷◌}
-use Rattle.crystal_spec.specs.Matrices.{Triple, Matrix, image, multiple, sum_of}
+use Rattle.std.specs.Prelude.{List, [], ◌∷◌}
+use Rattle.crystal_spec.specs.Matrices.{Triple, Matrix, image}
 use Rattle.crystal_spec.specs.Crystals.{Site, Structure, Occupied, position_after}
-use Rattle.crystal_spec.specs.Operations.{IsWithinCell}
-
-pub record FoldsTo (n : ℕ) (p q : Triple) : Type 0 where
-  pub within : IsWithinCell n q
-  pub cells : Triple
-  pub same : p ≡ sum_of q (multiple (pos n) cells)
 
 abbrev pub HasImage : Structure → Matrix → Triple → Matrix → Site → Type 0
 HasImage c w t l a = Occupied c a.species (position_after w t a.position) (image l a.moment)

@@ -4,14 +4,14 @@
 --                          two at one position
 -- Each is a cell as `IsCell` of crystal_spec defines it.
 use Rattle.std.specs.Prelude.{◌≡◌, ℕ, pos, ◌*◌, ◌^◌, ◌<◌, ◌≤◌, ◌≤ℤ◌, List, [], ◌∷◌, length, slice_get, Some}
-use Rattle.crystal_spec.specs.Increasing.{IsDistinct}
+use Rattle.lists.specs.Increasing.{IsDistinct}
 use Rattle.crystal_spec.specs.declared.MomentKind.{MomentKind}
 use Rattle.crystal_spec.specs.Matrices.{Matrix}
 use Rattle.crystal_spec.specs.Moments.{IsOfKind}
 use Rattle.crystal_spec.specs.Crystals.{Site, Structure, IsPositive}
 use Rattle.crystal_spec.specs.Operations.{IsWithinCell}
 use Rattle.crystal.specs.declared.limits.TheConstants.{MOST_ATOMS, MOST_NAMES}
-use Rattle.crystal.specs.Bounds.{EntriesAtMost, CoordinatesAtMost}
+use Rattle.matrix3.specs.Bounds.{EntriesAtMost, CoordinatesAtMost}
 use Rattle.crystal.specs.Occupants.{NoneAt}
 
 -- rows and columns are the same

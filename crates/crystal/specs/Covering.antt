@@ -3,9 +3,9 @@
 --   Covers sites index      the index has the position of each of these atoms
 --   Lacks index p           it does not have the place p
 use Rattle.std.specs.Prelude.{◌≡◌, ℕ, List, length}
-use Rattle.crystal_spec.specs.Increasing.{IsMember}
+use Rattle.lists.specs.Increasing.{IsMember}
 use Rattle.crystal_spec.specs.Crystals.{Site}
-use Rattle.crystal.specs.Views.{triple_of}
+use Rattle.positions.specs.Positions.{triple_of}
 use Rattle.crystal.specs.declared.place_index.PlaceIndex.{PlaceIndex}
 
 pub record IsListed (places : List (List ℕ)) (a : Site) : Type 0 where

@@ -1,6 +1,7 @@
 ghost use Rattle.std.specs.Prelude.{◌≡◌, ◌↔◌, ◌≤◌, ◌*◌, ◌^◌, IsTrue};
-ghost use Rattle.crystal.specs.Views.{site_of, triple_of};
-ghost use Rattle.crystal.specs.Bounds.{EntriesAtMost, CoordinatesAtMost};
+ghost use Rattle.crystal.specs.Views.{site_of};
+ghost use Rattle.positions.specs.Positions.{triple_of};
+ghost use Rattle.matrix3.specs.Bounds.{EntriesAtMost, CoordinatesAtMost};
 ghost use Rattle.crystal.specs.Covering.{Covers};
 ghost use Rattle.crystal.specs.Carrying.{HasImage, HaveImages};
 

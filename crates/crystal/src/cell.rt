@@ -1,20 +1,21 @@
-ghost use Rattle.std.specs.Prelude.{◌≡◌, ◌*◌, ◌^◌, ◌<◌, ◌≤◌, ◌≤ℤ◌, pos, IfOk, IfSome, IfNone, OnOk, OnErr, [], ◌∷◌, ◌++◌, length, slice_get, Some};
-ghost use Rattle.crystal_spec.specs.Increasing.{IsMember};
+ghost use Rattle.std.specs.Prelude.{◌≡◌, ◌↔◌, IsTrue, take, ◌*◌, ◌^◌, ◌<◌, ◌≤◌, ◌≤ℤ◌, pos, IfOk, IfSome, IfNone, OnOk, OnErr, [], ◌∷◌, ◌++◌, length, slice_get, Some};
+ghost use Rattle.lists.specs.Increasing.{IsMember};
 ghost use Rattle.crystal_spec.specs.Moments.{IsOfKind};
 ghost use Rattle.crystal_spec.specs.Crystals.{IsPositive};
 ghost use Rattle.crystal_spec.specs.Operations.{IsWithinCell};
 ghost use Rattle.crystal_spec.specs.Cells.{IsCell};
-ghost use Rattle.crystal.specs.Views.{metric_of, site_of, triple_of};
+ghost use Rattle.crystal.specs.Views.{metric_of, site_of};
+ghost use Rattle.positions.specs.Positions.{triple_of};
 ghost use Rattle.crystal.specs.Occupants.{IsOccupant, NoneAt};
 ghost use Rattle.crystal.specs.Covering.{Covers};
-ghost use Rattle.crystal.specs.Bounds.{EntriesAtMost, CoordinatesAtMost};
+ghost use Rattle.matrix3.specs.Bounds.{EntriesAtMost, CoordinatesAtMost};
 ghost use Rattle.crystal.specs.Cells.{IsCellWithinLimits, IsSiteOf};
 
 use crate::atom::Atom;
 use crate::limits::{MOST_ATOMS, MOST_NAMES};
 use crate::metric::Metric;
 use crate::name::Name;
-use crate::occupant::find_occupant;
+use crate::occupant::{find_occupant, first_occupant};
 use crate::place_index::PlaceIndex;
 use crystal_spec::MomentKind;
 use exact_num::Int;
@@ -117,6 +118,38 @@ impl Cell {
         let number = self.names.len() as u16;
         self.names.push(name)?;
         Ok(number)
+    }
+
+    /// Adds the names of another cell, of which the first is there.
+    ///
+    /// Refuses for want of memory alone.
+    pub fn add_names_of(&mut self, cell: &Cell) -> Result<(), AllocError>
+        requires { self.old.names ≡ take 1 cell.now.names }
+        ensures { OnOk result (self.new ≡ record self.old { names = cell.now.names }) }
+    {
+        let _form = cell.count();
+        for species in 1..cell.names() {
+            self.add_name(cell.name(species as u16).copied())?;
+        }
+        Ok(())
+    }
+
+    /// The number of the first atom at a position. It looks at each atom in turn.
+    fn first_at(&self, place: [u32; 3]) -> Option<usize>
+        ensures found { IfSome result (IsOccupant self.now.sites (triple_of place)) }
+        ensures absent { IfNone result (NoneAt (triple_of place) self.now.sites) }
+    {
+        first_occupant(&self.atoms, place)
+    }
+
+    /// Whether no atom is at a position within the cell. It looks at each atom in turn.
+    pub fn is_free(&self, place: [u32; 3]) -> bool
+        ensures { IsTrue result ↔ NoneAt (triple_of place) self.now.sites }
+    {
+        match self.first_at(place) {
+            Some(_) => false,
+            None => true,
+        }
     }
 
     /// Adds an atom of a named species, with a moment of the cell's kind, at a position within the cell where no atom is.

@@ -11,17 +11,13 @@ mod carrying;
 mod cell;
 mod failure;
 mod limits;
-mod mapping;
 mod metric;
 mod moments;
 mod name;
 mod occupant;
 mod place_index;
 mod places;
-mod preimage;
 mod steps;
-#[cfg(test)]
-mod tests;
 
 pub use action::Action;
 pub use atom::Atom;
@@ -29,7 +25,6 @@ pub use cell::Cell;
 pub use crystal_spec::{MomentKind, Sign};
 pub use failure::Failure;
 pub use limits::{MOST_ATOMS, MOST_NAMES};
-pub use mapping::translation_onto;
 pub use metric::Metric;
 pub use moments::{moment_matrix, turn_matrix};
 pub use name::Name;

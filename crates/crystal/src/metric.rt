@@ -1,11 +1,20 @@
 ghost use Rattle.std.specs.Prelude.{◌≡◌, ◌↔◌, ◌^◌, IsTrue};
 ghost use Rattle.crystal_spec.specs.Crystals.{KeepsMetric};
 ghost use Rattle.crystal.specs.Views.{metric_of};
-ghost use Rattle.crystal.specs.Bounds.{EntriesAtMost};
+ghost use Rattle.matrix3.specs.Bounds.{EntriesAtMost};
 
-use crate::mapping::keeps_metric;
 use exact_num::Int;
-use matrix3::Mat3;
+use matrix3::{Mat3, Vec3};
+
+/// Whether the matrix is an isometry of the metric tensor: wᵀ g w = g.
+fn keeps_metric(g: &Mat3<Int>, w: &Mat3<Int>) -> bool
+    requires metric { EntriesAtMost (10 ^ 16) g.now }
+    requires map { EntriesAtMost 150000000 w.now }
+    ensures { IsTrue result ↔ KeepsMetric g.now w.now }
+{
+    let carried = w.transpose().times(&g.times(w));
+    carried == *g
+}
 
 /// The metric tensor of the axes a, b and c: their scalar products.
 #[derive(Clone, Copy, Debug, PartialEq, Eq)]
@@ -24,17 +33,22 @@ impl Metric {
         ensures { result ≡ metric_of self.now }
     {
         let g = *self;
-        Mat3 {
-            a11: g.aa,
-            a12: g.ab,
-            a13: g.ac,
-            a21: g.ab,
-            a22: g.bb,
-            a23: g.bc,
-            a31: g.ac,
-            a32: g.bc,
-            a33: g.cc,
-        }
+        let a = Vec3 {
+            x: g.aa,
+            y: g.ab,
+            z: g.ac,
+        };
+        let b = Vec3 {
+            x: g.ab,
+            y: g.bb,
+            z: g.bc,
+        };
+        let c = Vec3 {
+            x: g.ac,
+            y: g.bc,
+            z: g.cc,
+        };
+        Mat3::of_columns(&a, &b, &c)
     }
 
     /// Whether the matrix is an isometry of the metric tensor: wᵀ g w = g.

@@ -1,40 +1,20 @@
 // What a map and a change of basis do to moments, by their kind: each acts by one matrix.
 
 ghost use Rattle.std.specs.Prelude.{◌≡◌, ◌*◌, ◌^◌, ◌*ℤ◌, pos, IsTrue};
-ghost use Rattle.crystal_spec.specs.Matrices.{determinant, identity, image, matrix_multiple};
+ghost use Rattle.crystal_spec.specs.Matrices.{determinant, image};
 ghost use Rattle.crystal_spec.specs.Moments.{axial_factor, turn_matrix, moment_matrix};
 ghost use Rattle.crystal_spec.specs.Operations.{sign_factor};
-ghost use Rattle.crystal.specs.Bounds.{EntriesAtMost, CoordinatesAtMost};
+ghost use Rattle.matrix3.specs.Bounds.{EntriesAtMost, CoordinatesAtMost};
 
-use crate::mapping::whole;
 use crystal_spec::{MomentKind, Sign};
 use exact_num::{Exact, Int};
 use matrix3::{Mat3, Vec3};
-
-/// The identity matrix.
-fn identity() -> Mat3<Int>
-    ensures { result ≡ identity }
-{
-    let one = whole(1);
-    let zero = whole(0);
-    Mat3 {
-        a11: one,
-        a12: zero,
-        a13: zero,
-        a21: zero,
-        a22: one,
-        a23: zero,
-        a31: zero,
-        a32: zero,
-        a33: one,
-    }
-}
 
 /// What a change of basis is to moments of this kind: the matrix itself to vectors, the identity to scalars.
 pub fn turn_matrix(kind: MomentKind, r: &Mat3<Int>) -> Mat3<Int>
     ensures { result ≡ turn_matrix kind r.now }
 {
-    if kind.vector { *r } else { identity() }
+    if kind.vector { *r } else { Mat3::identity() }
 }
 
 /// What an isometry multiplies moments of this kind by, beside the time sign: its determinant if they are axial, or 1.
@@ -42,7 +22,11 @@ fn axial_factor(kind: MomentKind, w: &Mat3<Int>) -> Int
     requires map { EntriesAtMost 150000000 w.now }
     ensures { result ≡ axial_factor kind (determinant w.now) }
 {
-    if kind.axial { w.handed() } else { whole(1) }
+    if kind.axial {
+        w.handed()
+    } else {
+        Int::from(1u32)
+    }
 }
 
 /// The same factor with the time sign.
@@ -58,26 +42,6 @@ fn signed_factor(kind: MomentKind, w: &Mat3<Int>, sign: Sign) -> Int
     }
 }
 
-/// A matrix times a number of size 1.
-fn matrix_multiple(factor: Int, a: &Mat3<Int>) -> Mat3<Int>
-    requires factor { factor *ℤ factor ≡ pos 1 }
-    requires entries { EntriesAtMost 150000000 a.now }
-    ensures { result ≡ matrix_multiple factor a.now }
-{
-    let a = *a;
-    Mat3 {
-        a11: factor * a.a11,
-        a12: factor * a.a12,
-        a13: factor * a.a13,
-        a21: factor * a.a21,
-        a22: factor * a.a22,
-        a23: factor * a.a23,
-        a31: factor * a.a31,
-        a32: factor * a.a32,
-        a33: factor * a.a33,
-    }
-}
-
 /// The matrix by which an isometry with this time sign acts on moments of this kind.
 ///
 /// It is sign · det(W) · W for axial vectors, sign · W for other vectors, and these factors of the identity for scalars.
@@ -88,7 +52,7 @@ pub fn moment_matrix(kind: MomentKind, w: &Mat3<Int>, sign: Sign) -> Mat3<Int>
     ensures size { EntriesAtMost 150000000 result }
 {
     let factor = signed_factor(kind, w, sign);
-    matrix_multiple(factor, &turn_matrix(kind, w))
+    turn_matrix(kind, w).multiple(factor)
 }
 
 /// Whether the moment is zero.

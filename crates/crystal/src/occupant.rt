@@ -1,5 +1,6 @@
 ghost use Rattle.std.specs.Prelude.{◌≡◌, ◌↔◌, ◌<◌, length, IsTrue, IfSome, IfNone, map};
-ghost use Rattle.crystal.specs.Views.{triple_of, site_of};
+ghost use Rattle.crystal.specs.Views.{site_of};
+ghost use Rattle.positions.specs.Positions.{triple_of};
 ghost use Rattle.crystal.specs.Occupants.{IsOccupant, NoneAt};
 ghost use Rattle.crystal.specs.Covering.{Covers};
 
@@ -15,7 +16,7 @@ fn is_at(atom: &Atom, place: [u32; 3]) -> bool
 }
 
 /// The number of the first atom at this position, or `None` where no atom is there. It looks at each atom in turn.
-fn first_occupant(atoms: &[Atom], place: [u32; 3]) -> Option<usize>
+pub(crate) fn first_occupant(atoms: &[Atom], place: [u32; 3]) -> Option<usize>
     ensures found { IfSome result (IsOccupant (map site_of atoms.now) (triple_of place)) }
     ensures below { IfSome result (λ i. i < length atoms.now) }
     ensures absent { IfNone result (NoneAt (triple_of place) (map site_of atoms.now)) }

@@ -1,5 +1,5 @@
 ghost use Rattle.std.specs.Prelude.{◌≡◌, ℕ, List, length, map, IfOk, OnOk, IfNone};
-ghost use Rattle.crystal_spec.specs.Increasing.{IsMember};
+ghost use Rattle.lists.specs.Increasing.{IsMember};
 ghost use Rattle.crystal.specs.Views.{site_of};
 ghost use Rattle.crystal.specs.Covering.{Covers, Lacks};
 

@@ -1,8 +1,8 @@
 ghost use Rattle.std.specs.Prelude.{◌≡◌, ◌↔◌, ◌+◌, ◌<◌, IfOk, IfSome, IfNone, IsTrue, slice_index};
 ghost use Rattle.crystal_spec.specs.Crystals.{Keeps, KeepsMetric};
 ghost use Rattle.crystal_spec.specs.Operations.{sign_factor};
-ghost use Rattle.crystal.specs.Views.{triple_of};
-ghost use Rattle.crystal.specs.Bounds.{EntriesAtMost};
+ghost use Rattle.positions.specs.Positions.{triple_of};
+ghost use Rattle.matrix3.specs.Bounds.{EntriesAtMost};
 ghost use Rattle.crystal.specs.Actions.{ActsOn};
 ghost use Rattle.crystal.specs.Occupants.{IsOccupant, NoneAt};
 

@@ -24,25 +24,13 @@ use Rattle.basis_spec.proofs.PrimitiveCell.{cells_alone}
 use Rattle.basis_spec.proofs.Translations.{occupied_away}
 use Rattle.crystal.proofs.CellLemmas.{is_cell}
 use Rattle.prim_cell.proofs.Moving.{some_cells}
+use Rattle.basis_spec.proofs.WholeMaps.{sign_of_unit}
 use Rattle.crystal_compare.specs.Maps.{CarriesMetric}
 use Rattle.crystal_compare.specs.AnyMaps.{TakesAny}
 use Rattle.crystal_compare.specs.Search.{Moves, MapsOnto, moments_of, shifted}
 use Rattle.crystal_compare.proofs.WholeBetween as between
 use Rattle.crystal_compare.proofs.Shifts.{IsRatio, AreRatios, moved_from, ratios_of, rest_of}
 use Rattle.crystal_compare.proofs.Carried.{ArePrimitive, AnyInSteps, moment_is, product_nonzero, above_nonzero, multiple_nonzero, turn_nonzero, axial_nonzero, sign_nonzero, sign_of_nonzero, isometry_nonzero}
-
--- the sign of a positive multiple of 1 or -1
-negative_part : (n : ℕ) → pos (suc n) *ℤ negsuc 0 ≡ negsuc n
-negative_part n = omega (arith, ints)
-
-sign_of_unit : (k a : ℤ) → pos 0 <ℤ k → a *ℤ a ≡ pos 1 → sign_of (k *ℤ a) ≡ a
-sign_of_unit (negsuc n) a p e = absurd p.lt
-sign_of_unit (pos zero) a p e = absurd (omega (arith, ints))
-sign_of_unit (pos (suc n)) (pos zero) p e = absurd (omega (arith, ints))
-sign_of_unit (pos (suc n)) (pos (suc zero)) p e = refl
-sign_of_unit (pos (suc n)) (pos (suc (suc a))) p e = absurd (omega (arith, ints))
-sign_of_unit (pos (suc n)) (negsuc zero) p e = ap sign_of (negative_part n)
-sign_of_unit (pos (suc n)) (negsuc (suc a)) p e = absurd (omega (arith, ints))
 
 -- a translation part that differs by whole cells carries the crystal too
 pub moves_near : (c c' : Structure) (w : Matrix) (t u v : Triple) (k : ℤ) (l : Matrix) → t ≡ sum_of u (multiple (pos c.n *ℤ pos c'.n) v) → Moves c c' w t (pos c.n) k l → Moves c c' w u (pos c.n) k l

@@ -30,7 +30,7 @@ use Rattle.basis_spec.specs.Maps.{sign_of}
 use Rattle.crystal_spec.specs.Cells.{IsCell}
 use Rattle.basis_spec.proofs.MatrixLaws.{image-matrix_multiple, determinant-matrix_multiple, determinant-metric_in}
 use Rattle.basis_spec.proofs.PrimitiveCell.{cells_alone}
-use Rattle.crystal.specs.Bounds.{EntriesAtMost}
+use Rattle.matrix3.specs.Bounds.{EntriesAtMost}
 use Rattle.crystal.specs.Cells.{IsCellWithinLimits, IsSymmetric}
 use Rattle.crystal.proofs.CellLemmas.{is_cell}
 use Rattle.prim_cell.proofs.Moving.{some_cells}

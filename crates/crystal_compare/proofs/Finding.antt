@@ -5,109 +5,32 @@
 use Rattle.std.proofs.Common.{◌≡◌, refl, sym, ap, subst, ◌∙◌, ◌⊎◌, inl, inr, ℕ, zero, suc, ◌+◌, ◌*◌, ◌/◌, ◌%◌, ◌<◌, ◌≤◌, List, [], ◌∷◌, ◌++◌, length, arith}
 use Rattle.std.specs.Prelude.{ℤ, pos, negsuc, neg_ℤ, ◌+ℤ◌, ◌*ℤ◌, ◌-ℤ◌, unsigned_abs, ◌↔◌, slice_get, Some}
 use Rattle.ring.specs.Ring.{quoted, var, con, ◌:+◌, ◌:*◌, opposite}
-use Rattle.matrix3.specs.Matrices.{coordinates, vector_of_variables}
+use Rattle.matrix3.specs.Matrices.{coordinates, vector_of_variables, of_columns}
+use Rattle.lists.specs.Increasing.{IsMember, inserted}
+use Rattle.lists.specs.Any.{AnyBelow}
+use Rattle.lists.proofs.Increasing.{IsMember-inserted}
+use Rattle.lists.proofs.Members.{same_at, place_of_member}
 use Rattle.matrix3.specs.Matrices as formulas
 use Rattle.crystal_spec.specs.declared.Sign.{Sign}
 use Rattle.crystal_spec.specs.declared.Sign.TheVariants.{Same, Reversed}
-use Rattle.crystal_spec.specs.Increasing.{IsMember, inserted}
 use Rattle.crystal_spec.specs.Matrices.{Matrix, Triple, image, multiple, sum_of, difference}
 use Rattle.crystal_spec.specs.Crystals.{Site, Structure}
 use Rattle.crystal_spec.specs.Operations.{Operation, compare_of}
 use Rattle.crystal_spec.proofs.Entrywise.{triple_same}
 use Rattle.crystal_spec.proofs.Identities.{by_integers, by_triples}
 use Rattle.crystal_spec.proofs.Images.{same_within}
-use Rattle.crystal_spec.proofs.Ordered.{IsMember-inserted, compare_exact}
-use Rattle.crystal.specs.Bounds.{EntriesAtMost, CoordinatesAtMost}
-use Rattle.crystal.specs.Carrying.{FoldsTo}
+use Rattle.crystal_spec.proofs.Ordered.{compare_exact}
+use Rattle.matrix3.specs.Bounds.{EntriesAtMost, CoordinatesAtMost}
+use Rattle.positions.specs.Positions.{IsModulo}
 use Rattle.crystal.specs.Cells.{IsCellWithinLimits}
-use Rattle.lattice_iso.specs.Columns.{candidate, scalar_product, of_columns}
+use Rattle.lattice_iso.specs.Columns.{candidate, scalar_product}
 use Rattle.lattice_iso.proofs.Candidates.{candidate_small}
 use Rattle.basis_spec.specs.Metrics.{matrix_multiple, metric_in}
 use Rattle.basis_spec.proofs.MatrixLaws.{metric_in-multiple_metric}
 use Rattle.crystal_compare.specs.Maps.{HaveOneName}
-use Rattle.crystal_compare.specs.Search.{steps, AreMetricsOf, IsSecondColumn, IsThirdColumn, IsFoldedOnto, IsIsometry, IsMap, IsMapAs, IsMapOnto, IsMapOntoNumber, IsMapBy, IsMapOfTwo, IsMapOfOne, IsMapOfColumns, IsSmallMap, AnyBelow}
-use Rattle.crystal_compare.proofs.Names.{same_at}
+use Rattle.positions.proofs.Residues.{modulo_once}
+use Rattle.crystal_compare.specs.Search.{steps, AreMetricsOf, IsSecondColumn, IsThirdColumn, IsFoldedOnto, IsIsometry, IsMap, IsMapAs, IsMapOnto, IsMapOntoNumber, IsMapBy, IsMapOfTwo, IsMapOfOne, IsMapOfColumns, IsSmallMap}
 use Rattle.crystal_compare.proofs.Reaching.{images_of_onto, site_image_member, equally_many}
-
--- ---- one more
-below_or : (n k : ℕ) → n < k + 1 → (n < k) ⊎ (n ≡ k)
-below_or zero zero p = inr refl
-below_or zero (suc k) p = inl (omega arith)
-below_or (suc n) zero p = absurd (omega arith)
-below_or (suc n) (suc k) p = by (below_or n k (omega arith))
-  where
-    by : (n < k) ⊎ (n ≡ k) → (suc n < suc k) ⊎ (suc n ≡ suc k)
-    by (inl q) = inl (omega arith)
-    by (inr q) = inr (omega arith)
-
--- none so far
-pub any_none : (P : ℕ → Type 0) (Old : Type 0) → Old ↔ (AnyBelow 0 P ⊎ Old)
-any_none P Old = ((λ d. inr d), back)
-  where
-    back : AnyBelow 0 P ⊎ Old → Old
-    back (inl k) = absurd (omega (arith, k.below))
-    back (inr d) = d
-
-later : (P : ℕ → Type 0) (k : ℕ) → AnyBelow k P → AnyBelow (k + 1) P
-later P k a = record { number = a.number; below = omega (arith, a.below); holds = a.holds }
-
--- what has the next number is found too
-pub any_more : (P : ℕ → Type 0) (k : ℕ) (A D Old : Type 0) → D ↔ (AnyBelow k P ⊎ Old) → A ↔ (P k ⊎ D) → A ↔ (AnyBelow (k + 1) P ⊎ Old)
-any_more P k A D Old old more = ((λ a. forth (more.0 a)), back)
-  where
-    earlier : AnyBelow k P ⊎ Old → AnyBelow (k + 1) P ⊎ Old
-    earlier (inl a) = inl (later P k a)
-    earlier (inr d) = inr d
-
-    forth : P k ⊎ D → AnyBelow (k + 1) P ⊎ Old
-    forth (inl h) = inl (record { number = k; below = omega arith; holds = h })
-    forth (inr d) = earlier (old.0 d)
-
-    by_order : (a : AnyBelow (k + 1) P) → (a.number < k) ⊎ (a.number ≡ k) → A
-    by_order a (inl q) = more.1 (inr (old.1 (inl (record { number = a.number; below = q; holds = a.holds }))))
-    by_order a (inr e) = more.1 (inl (subst P e a.holds))
-
-    back : AnyBelow (k + 1) P ⊎ Old → A
-    back (inl a) = by_order a (below_or a.number k a.below)
-    back (inr d) = more.1 (inr (old.1 (inr d)))
-
--- nothing has the next number
-pub any_same : (P : ℕ → Type 0) (k : ℕ) (D Old : Type 0) → (P k → ⊥) → D ↔ (AnyBelow k P ⊎ Old) → D ↔ (AnyBelow (k + 1) P ⊎ Old)
-any_same P k D Old none old = ((λ d. forth (old.0 d)), back)
-  where
-    forth : AnyBelow k P ⊎ Old → AnyBelow (k + 1) P ⊎ Old
-    forth (inl a) = inl (later P k a)
-    forth (inr d) = inr d
-
-    by_order : (a : AnyBelow (k + 1) P) → (a.number < k) ⊎ (a.number ≡ k) → D
-    by_order a (inl q) = old.1 (inl (record { number = a.number; below = q; holds = a.holds }))
-    by_order a (inr e) = absurd (none (subst P e a.holds))
-
-    back : AnyBelow (k + 1) P ⊎ Old → D
-    back (inl a) = by_order a (below_or a.number k a.below)
-    back (inr d) = old.1 (inr d)
-
--- the same where there is nothing old
-pub alone_none : (P : ℕ → Type 0) → ⊥ ↔ AnyBelow 0 P
-alone_none P = ((λ m. absurd m), (λ k. omega (arith, k.below)))
-
-pub alone_more : (P : ℕ → Type 0) (k : ℕ) (A D : Type 0) → D ↔ AnyBelow k P → A ↔ (P k ⊎ D) → A ↔ AnyBelow (k + 1) P
-alone_more P k A D old more =
-    let h = any_more P k A D ⊥ ((λ d. inl (old.0 d)), (λ s. old.1 (left (AnyBelow k P) s))) more in
-    ((λ a. left (AnyBelow (k + 1) P) (h.0 a)), (λ s. h.1 (inl s)))
-  where
-    left : (X : Type 0) → X ⊎ ⊥ → X
-    left X (inl x) = x
-    left X (inr m) = absurd m
-
-pub alone_same : (P : ℕ → Type 0) (k : ℕ) (D : Type 0) → (P k → ⊥) → D ↔ AnyBelow k P → D ↔ AnyBelow (k + 1) P
-alone_same P k D none old =
-    let h = any_same P k D ⊥ none ((λ d. inl (old.0 d)), (λ s. old.1 (left (AnyBelow k P) s))) in
-    ((λ a. left (AnyBelow (k + 1) P) (h.0 a)), (λ s. h.1 (inl s)))
-  where
-    left : (X : Type 0) → X ⊎ ⊥ → X
-    left X (inl x) = x
-    left X (inr m) = absurd m
 
 -- ---- one map
 pub map_added : (c c' : Structure) (a : Operation) (old new : List Operation) → IsMap c c' a → new ≡ inserted compare_of a old → (o : Operation) → IsMember o new ↔ (IsMapAs c c' a o ⊎ IsMember o old)
@@ -138,19 +61,6 @@ taken_off a l n =
     let y = vector_of_variables 3 in
     by_triples (coordinates a ++ coordinates l ++ n ∷ []) x (formulas.sum_of quoted (formulas.sum_of quoted x (formulas.multiple quoted (var 6) y)) (formulas.multiple quoted (var 6) (formulas.multiple quoted (con (negsuc 0)) y))) refl
 
-folds_once : (n : ℕ) (p q r : Triple) → FoldsTo n p q → FoldsTo n p r → q ≡ r
-folds_once n p q r f g = same_within n q r (difference g.cells f.cells) f.within g.within (taken q r f.cells g.cells (pos n) (sym f.same ∙ g.same))
-  where
-    taken : (a b l k : Triple) (n : ℤ) → sum_of a (multiple n l) ≡ sum_of b (multiple n k) → a ≡ sum_of b (multiple n (difference k l))
-    taken a b l k n e =
-        let x = vector_of_variables 0 in
-        let y = vector_of_variables 3 in
-        let u = vector_of_variables 6 in
-        taken_off a l n ∙ ap (λ (p : Triple). sum_of p (multiple n (multiple (negsuc 0) l))) e
-        ∙ by_triples (coordinates b ++ coordinates k ++ coordinates l ++ n ∷ [])
-        (formulas.sum_of quoted (formulas.sum_of quoted x (formulas.multiple quoted (var 9) y)) (formulas.multiple quoted (var 9) (formulas.multiple quoted (con (negsuc 0)) u)))
-        (formulas.sum_of quoted x (formulas.multiple quoted (var 9) (formulas.difference quoted y u))) refl
-
 pub onto_both : (c c' : Structure) (w : Matrix) (t : Triple) (a b : Site) (o : Operation) (A B D : Type 0) → IsFoldedOnto c c' w a.position b.position t →
     B ↔ (IsMapAs c c' (record { matrix = w; translation = t; sign = Same }) o ⊎ D) → A ↔ (IsMapAs c c' (record { matrix = w; translation = t; sign = Reversed }) o ⊎ B) → A ↔ (IsMapOnto c c' w a b o ⊎ D)
 onto_both c c' w t a b o A B D f same reversed = ((λ x. from_reversed (reversed.0 x)), back)
@@ -169,7 +79,7 @@ onto_both c c' w t a b o A B D f same reversed = ((λ x. from_reversed (reversed
     at_sign : (k : IsMapOnto c c' w a b o) (s : Sign) → o.sign ≡ s → IsMapAs c c' (record { matrix = w; translation = t; sign = s }) o
     at_sign k s e =
         let m = k.same_matrix in
-        let v = folds_once (steps c c') (difference (multiple (pos c.n) b.position) (multiple (pos c'.n) (image w a.position))) o.translation t k.folded f in
+        let v = modulo_once (steps c c') (difference (multiple (pos c.n) b.position) (multiple (pos c'.n) (image w a.position))) o.translation t k.folded f in
         record { same = λ i. record { matrix = m i; translation = v i; sign = e i }; is_map = k.is_map }
 
     by_sign : (k : IsMapOnto c c' w a b o) (s : Sign) → o.sign ≡ s → A
@@ -181,16 +91,6 @@ onto_both c c' w t a b o A B D f same reversed = ((λ x. from_reversed (reversed
     back (inr d) = reversed.1 (inr (same.1 (inr d)))
 
 -- ---- one atom after another
-record IsAt {X : Type 0} (xs : List X) (x : X) : Type 0 where
-  number : ℕ
-  below : number < length xs
-  at : slice_get xs number ≡ Some x
-
-at_of_member : {X : Type 0} (xs : List X) (x : X) → IsMember x xs → IsAt xs x
-at_of_member [] x m = absurd m
-at_of_member {X} (y ∷ ys) x (inl e) = record { number = 0; below = omega arith; at = ap (λ (z : X). Some z) (sym e) }
-at_of_member (y ∷ ys) x (inr m) = let k = at_of_member ys x m in record { number = suc k.number; below = omega (arith, k.below); at = k.at }
-
 -- the translation part from where the first atom goes
 carried_translation : (x y t u : Triple) (n m : ℤ) → multiple n (sum_of x (multiple m u)) ≡ sum_of y t → difference (multiple n x) y ≡ sum_of t (multiple (n *ℤ m) (multiple (negsuc 0) u))
 carried_translation x y t u n m e = triple_same (by x.x y.x t.x u.x (ap (λ (v : Triple). v.x) e)) (by x.y y.y t.y u.y (ap (λ (v : Triple). v.y) e)) (by x.z y.z t.z u.z (ap (λ (v : Triple). v.z) e))
@@ -213,7 +113,7 @@ by_atoms c c' w a o A Old cell cell' of_cell found = ((λ x. forth (found.0 x)),
     back (inl h) =
         let m = h.is_map in
         let i = site_image_member c c' o.matrix o.translation _ c.sites a (images_of_onto c c' o.matrix o.translation o.sign cell cell' m.isometry.unimodular m.onto) of_cell in
-        let k = at_of_member c'.sites i.site i.of_cell in
+        let k = place_of_member c'.sites i.site i.of_cell in
         inl (record {
           number = k.number;
           below = k.below;

@@ -5,9 +5,9 @@ use Rattle.ring.specs.Size.{AtMost}
 use Rattle.ring.proofs.Sizes.{at_most_mul, at_most_sub, weaken}
 use Rattle.crystal_spec.specs.Matrices.{Triple, multiple, difference}
 use Rattle.crystal_spec.proofs.Entrywise.{triple_same}
-use Rattle.basis_spec.proofs.Residues.{euclid, remainder_within}
-use Rattle.crystal.specs.Bounds.{CoordinatesAtMost}
-use Rattle.crystal.specs.Carrying.{FoldsTo}
+use Rattle.positions.proofs.Residues.{euclid, remainder_within}
+use Rattle.matrix3.specs.Bounds.{CoordinatesAtMost}
+use Rattle.positions.specs.Positions.{IsModulo}
 use Rattle.crystal_compare.specs.Search.{IsFolded}
 
 -- the remainder is what is left of whole multiples
@@ -23,7 +23,7 @@ is_folded z (pos n) r h e =
     }
 
 -- three coordinates
-pub folded_onto : (n m : ℕ) (u v p q : Triple) (k a b c : ℤ) (r : Triple) → u ≡ p → v ≡ q → k ≡ pos (n * m) → a ≡ u.x -ℤ v.x → b ≡ u.y -ℤ v.y → c ≡ u.z -ℤ v.z → IsFolded k a r.x → IsFolded k b r.y → IsFolded k c r.z → FoldsTo (n * m) (difference p q) r
+pub folded_onto : (n m : ℕ) (u v p q : Triple) (k a b c : ℤ) (r : Triple) → u ≡ p → v ≡ q → k ≡ pos (n * m) → a ≡ u.x -ℤ v.x → b ≡ u.y -ℤ v.y → c ≡ u.z -ℤ v.z → IsFolded k a r.x → IsFolded k b r.y → IsFolded k c r.z → IsModulo (n * m) (difference p q) r
 folded_onto n m u v p q k a b c r e f g ha hb hc fx fy fz =
     let x = subst (λ (z : ℤ). IsFolded z a r.x) g fx in
     let y = subst (λ (z : ℤ). IsFolded z b r.y) g fy in

@@ -7,24 +7,25 @@
 use Rattle.std.proofs.Common.{◌≡◌, ℕ, ◌≤◌, List, [], ◌∷◌, ◌++◌, length, ℤ, pos, negsuc, ◌*ℤ◌, ◌<ℤ◌, refl, sym, ap, subst, ◌∙◌, arith}
 use Rattle.std.specs.Prelude.{◌↔◌}
 use Rattle.ring.specs.Ring.{Expr, quoted, var, con, ◌:*◌}
+use Rattle.lists.specs.Increasing.{IsMember, IsDistinct}
+use Rattle.lists.proofs.Increasing.{increasing_distinct}
+use Rattle.lists.proofs.Counting.{into_le}
 use Rattle.matrix3.specs.declared.vector.Vec3.{Vec3}
 use Rattle.matrix3.specs.Matrices.{coordinates, vector_of_variables}
 use Rattle.matrix3.specs.Matrices as formulas
 use Rattle.crystal_spec.specs.declared.Sign.{Sign}
 use Rattle.crystal_spec.specs.declared.Sign.TheVariants.{Reversed}
-use Rattle.crystal_spec.specs.Increasing.{IsMember, IsDistinct}
 use Rattle.crystal_spec.specs.Matrices.{Triple, Matrix, product, image, determinant, multiple, sum_of, identity}
 use Rattle.crystal_spec.specs.Crystals.{Structure}
 use Rattle.crystal_spec.specs.Operations.{Operation, IsWithinCell, IsSymmetryOperation, ListsAll, compare_of}
 use Rattle.crystal_spec.proofs.Identities.{by_integers, by_triples}
 use Rattle.crystal_spec.proofs.Images.{same_within}
 use Rattle.crystal_spec.proofs.Ordered.{compare_total}
-use Rattle.basis_spec.specs.Positions.{origin}
+use Rattle.positions.specs.Positions.{origin}
 use Rattle.basis_spec.specs.Translations.{IsPrimitive}
 use Rattle.basis_spec.proofs.MatrixLaws.{image-identity, image-product, image-multiple, multiple-origin, sum_of-origin, sum_comm, same_images}
 use Rattle.basis_spec.proofs.Cancelling.{multiple_cancel}
-use Rattle.basis_spec.proofs.Residues.{cells_within}
-use Rattle.basis_spec.proofs.TranslationLists.{increasing_distinct}
+use Rattle.positions.proofs.Residues.{cells_within}
 use Rattle.op_group.specs.Groups.{IsGroupModulo}
 use Rattle.mag_type.specs.Families.{SpaceOperation, IsInFamily, IsUnprimed, IsNumberOf}
 use Rattle.mag_type.specs.MagneticTypes.{HasOnlyZeroTranslation, anti_translation, time_reversal, HasAntiTranslation, IsTypeTwo, IsTypeFour, IsMagneticType, one, two, three, four}
@@ -34,7 +35,6 @@ use Rattle.crystal.specs.Cells.{IsCellWithinLimits}
 use Rattle.crystal.proofs.CellLemmas.{is_cell}
 use Rattle.crystal_compare.specs.Search.{steps, IsMap}
 use Rattle.crystal_compare.specs.Groups.{AreAlike}
-use Rattle.crystal_compare.proofs.Reaching.{into_le}
 use Rattle.crystal_compare.proofs.Inverses.{inverse, undoes_inverse, inverse_after, inverse_unit, left_cancel, right_cancel, AreCellsApart, apart_sym, apart_trans, apart_less, apart_before}
 use Rattle.crystal_compare.proofs.Sending.{Sends, HasUnits, both, both_cancel, both_cancel_last, both_twice, composed, back_translation, sent_back}
 use Rattle.crystal_compare.proofs.SendingMaps.{units_of, sent_by_map, map_of_sent, sent_by_operation, operation_of_sent}

@@ -4,7 +4,8 @@ use Rattle.std.specs.Prelude.{◌↔◌, slice_get, Some}
 use Rattle.std.proofs.lemmas.Int.{ints}
 use Rattle.numbers.specs.Residue.{residue}
 use Rattle.numbers.proofs.ResidueRing.{residue_splits}
-use Rattle.ring.specs.Ring.{var, ◌:*◌}
+use Rattle.ring.specs.Ring.{var, ◌:+◌, ◌:*◌, opposite}
+use Rattle.lists.proofs.Members.{member_at, same_at}
 use Rattle.crystal_spec.specs.declared.MomentKind.{MomentKind}
 use Rattle.crystal_spec.specs.declared.Sign.{Sign}
 use Rattle.crystal_spec.specs.Matrices.{Triple, Matrix, image, determinant, multiple, sum_of}
@@ -18,16 +19,20 @@ use Rattle.crystal_spec.proofs.Isometries.{sign_squared, unit_product}
 use Rattle.crystal_spec.proofs.Moments.{axial_factor-unit}
 use Rattle.basis_spec.proofs.MatrixLaws.{multiple-sum_of, sum_assoc, subtract_add}
 use Rattle.basis_spec.proofs.Cancelling.{multiple_cancel, sum_cancel}
-use Rattle.crystal.specs.Bounds.{EntriesAtMost, CoordinatesAtMost}
+use Rattle.matrix3.specs.Bounds.{EntriesAtMost, CoordinatesAtMost}
 use Rattle.crystal.specs.Cells.{IsCellWithinLimits}
 use Rattle.crystal.specs.Occupants.{IsOccupant, NoneAt}
 use Rattle.crystal.proofs.CellLemmas.{apart_cell, none_member}
-use Rattle.crystal.proofs.Folding.{taken_over}
-use Rattle.crystal.proofs.Ranges.{at_most_image, coordinates_grown, turn_entries, unit_entries}
+use Rattle.crystal.proofs.Ranges.{turn_entries, unit_entries}
+use Rattle.matrix3.proofs.FitsBySize.{image_size, coordinates_grown}
 use Rattle.prim_cell.proofs.Moving.{some_cells}
 use Rattle.crystal_compare.specs.Maps.{HaveOneName}
 use Rattle.crystal_compare.specs.Search.{IsCarriedCoordinate, IsCarriedPlace, IsBetweenPlaces, HasImageAt, HaveOneMoment, HasSiteImage}
-use Rattle.crystal_compare.proofs.Names.{member_at, same_at}
+
+-- a multiple on the other side
+taken_over : (n : ℕ) (r z q : ℤ) → r ≡ z +ℤ q *ℤ pos n → z ≡ r +ℤ pos n *ℤ neg_ℤ q
+taken_over n r z q e =
+    by_integers (z ∷ q ∷ pos n ∷ []) (var 0) ((var 0 :+ var 1 :* var 2) :+ var 2 :* opposite (var 1)) refl ∙ ap (λ (t : ℤ). t +ℤ pos n *ℤ neg_ℤ q) (sym e)
 
 -- one coordinate, brought into the cell
 pub coordinate_found : (n m : ℕ) (x t q : ℤ) (r : ℕ) → r < m → q *ℤ pos n ≡ pos m *ℤ x +ℤ t → pos r ≡ residue m q → IsCarriedCoordinate n m x t r
@@ -57,7 +62,7 @@ place_absent n m w t p q e none r h = none r (h ∙ ap (λ (v : Triple). sum_of 
 
 -- the size of an image of a position
 pub place_image : (w : Matrix) (p : Triple) → EntriesAtMost 1 w → CoordinatesAtMost (2 ^ 32) p → CoordinatesAtMost (10 ^ 14) (image w p)
-place_image w p h k = coordinates_grown {v = image w p} (lit≤ tt) (at_most_image 1 (2 ^ 32) w p h k)
+place_image w p h k = coordinates_grown {v = image w p} (lit≤ tt) (image_size w p h k)
 
 -- where an atom is at the position, that atom decides
 pub image_at : {T : Type 0} (c c' : Structure) (l : Matrix) (a : Site) (q : Triple) (i : ℕ) (b : Site) → IsCellWithinLimits c' → IsOccupant c'.sites q i → slice_get c'.sites i ≡ Some b → T ↔ (HaveOneName c c' a.species b.species × HaveOneMoment c c' l a b) → T ↔ HasImageAt c c' l a q

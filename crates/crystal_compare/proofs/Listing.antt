@@ -1,5 +1,5 @@
 -- The list of the maps in whole steps, with their translation parts as fractions, is the list of all maps.
-use Rattle.std.proofs.Common.{◌≡◌, ℕ, inl, inr, List, [], ◌∷◌, map, ◌^◌, Result, Ok, Err, IfOk, refl, sym, ap, subst, ◌∙◌, arith, ℤ, pos, ◌≤ℤ◌, ◌<ℤ◌}
+use Rattle.std.proofs.Common.{◌≡◌, ℕ, List, map, ◌^◌, Result, Ok, Err, IfOk, sym, ap, subst, ◌∙◌, arith, ℤ, pos, ◌≤ℤ◌, ◌<ℤ◌}
 use Rattle.std.specs.Prelude.{◌↔◌}
 use Rattle.std.proofs.lemmas.Int.{ints}
 use Rattle.std.specs.Ordering.{ordering_then, int_cmp}
@@ -7,12 +7,15 @@ use Rattle.std.specs.Cmp.Lexicographic.{slice_cmp}
 use Rattle.ring.specs.Size.{AtMost}
 use Rattle.numbers.specs.Fraction.{Fraction, lowest, quotient}
 use Rattle.numbers.proofs.FractionLemmas.{quotient-positive}
+use Rattle.lists.specs.Increasing.{IsIncreasing, IsMember}
+use Rattle.lists.proofs.Orders.{then_assoc}
+use Rattle.lists.proofs.Increasing.{increasing_distinct, IsIncreasing-mapped}
+use Rattle.lists.proofs.Members.{mapped_member, mapped_from}
 use Rattle.exact_num.specs.Small.{IsSmall}
 use Rattle.exact_num.proofs.FracLemmas.{part-size}
 use Rattle.matrix3.specs.declared.vector.Vec3.{Vec3}
 use Rattle.matrix3.specs.Matrices.{entries}
 use Rattle.crystal_spec.specs.declared.Sign.{Sign}
-use Rattle.crystal_spec.specs.Increasing.{IsBelowAll, IsIncreasing, IsMember}
 use Rattle.crystal_spec.specs.Matrices.{Matrix}
 use Rattle.crystal_spec.specs.Crystals.{Structure}
 use Rattle.crystal_spec.specs.Operations.{Operation, compare_of, sign_rank}
@@ -24,7 +27,7 @@ use Rattle.crystal_compare.specs.Maps.{AffineMap, Takes}
 use Rattle.crystal_compare.specs.AnyMaps.{TakesAny, IsListedIn}
 use Rattle.crystal_compare.specs.Lists.{map_order, ListsMaps}
 use Rattle.crystal_compare.specs.Search.{steps, shifted, IsMap, IsSmallMap}
-use Rattle.crystal_compare.proofs.Order.{compare_parts, then_assoc}
+use Rattle.crystal_compare.proofs.Order.{compare_parts}
 use Rattle.crystal_compare.proofs.Shifts.{fraction_order-lowest}
 use Rattle.crystal_compare.proofs.Carried.{ArePrimitive, takes_of_map, map_of_takes, isometry_small}
 use Rattle.crystal_compare.proofs.AnyCarried.{map_of_any}
@@ -33,7 +36,6 @@ use Rattle.crystal_compare.proofs.SendingMaps.{sent_by_map}
 use Rattle.crystal_compare.proofs.GroupsAlike.{as_many_as_first, as_many_as_second, groups_alike}
 use Rattle.std.proofs.lemmas.List.{length-map}
 use Rattle.crystal_spec.proofs.Ordered.{compare_total}
-use Rattle.basis_spec.proofs.TranslationLists.{increasing_distinct}
 
 -- ---- the order
 shifted_order : (n : ℕ) (a b : Operation) → pos 0 <ℤ pos n → map_order (shifted n a) (shifted n b) ≡ compare_of a b
@@ -49,43 +51,20 @@ shifted_order n a b h =
     ∙ sym (then_assoc (int_cmp a.translation.x b.translation.x) (ordering_then (int_cmp a.translation.y b.translation.y) (int_cmp a.translation.z b.translation.z)) rank))
     ∙ sym (compare_parts a b)
 
-below_shifted : (n : ℕ) (a : Operation) (os : List Operation) → pos 0 <ℤ pos n → IsBelowAll compare_of a os → IsBelowAll map_order (shifted n a) (map (shifted n) os)
-below_shifted n a [] h k = tt
-below_shifted n a (b ∷ os) h k = (shifted_order n a b h ∙ k.0, below_shifted n a os h k.1)
-
-increasing_shifted : (n : ℕ) (os : List Operation) → pos 0 <ℤ pos n → IsIncreasing compare_of os → IsIncreasing map_order (map (shifted n) os)
-increasing_shifted n [] h k = tt
-increasing_shifted n (a ∷ os) h k = (below_shifted n a os h k.0, increasing_shifted n os h k.1)
-
 -- the steps of two cells are in the order of their fractions
 pub increasing_in_cells : (c c' : Structure) (os : List Operation) → IsCellWithinLimits c → IsCellWithinLimits c' → IsIncreasing compare_of os → IsIncreasing map_order (map (shifted (steps c c')) os)
-increasing_in_cells c c' os cell cell' k = increasing_shifted (steps c c') os (mul_pos (pos c.n) (pos c'.n) (some_cells c cell) (some_cells c' cell')) k
+increasing_in_cells c c' os cell cell' k = IsIncreasing-mapped compare_of map_order (shifted (steps c c')) (λ a b. shifted_order (steps c c') a b (mul_pos (pos c.n) (pos c'.n) (some_cells c cell) (some_cells c' cell'))) os k
 
 -- ---- members
-record From {X Y : Type 0} (f : X → Y) (xs : List X) (y : Y) : Type 0 where
-  x : X
-  of_list : IsMember x xs
-  is : y ≡ f x
-
-from : {X Y : Type 0} (f : X → Y) (xs : List X) (y : Y) → IsMember y (map f xs) → From f xs y
-from f [] y m = absurd m
-from f (x ∷ xs) y (inl e) = record { x = x; of_list = inl refl; is = e }
-from f (x ∷ xs) y (inr m) = let k = from f xs y m in record { x = k.x; of_list = inr k.of_list; is = k.is }
-
-mapped : {X Y : Type 0} (f : X → Y) (xs : List X) (x : X) → IsMember x xs → IsMember (f x) (map f xs)
-mapped f [] x m = absurd m
-mapped f (z ∷ xs) x (inl e) = inl (ap f e)
-mapped f (z ∷ xs) x (inr m) = inr (mapped f xs x m)
-
 module _ (c c' : Structure) (p : ArePrimitive c c') (niggli : IsNiggli c.metric) (niggli' : IsNiggli c'.metric) (os : List Operation) (found : (o : Operation) → IsMember o os ↔ IsSmallMap c c' o) where
   listed : (o : Operation) → IsMap c c' o → IsMember (shifted (steps c c') o) (map (shifted (steps c c')) os)
-  listed o h = mapped (shifted (steps c c')) os o ((found o).1 (record { small = isometry_small c c' o.matrix p.cell p.cell' niggli niggli' h.isometry; is_map = h }))
+  listed o h = mapped_member (shifted (steps c c')) o os ((found o).1 (record { small = isometry_small c c' o.matrix p.cell p.cell' niggli niggli' h.isometry; is_map = h }))
 
   pub lists_maps : IsIncreasing compare_of os → ListsMaps c c' (map (shifted (steps c c')) os)
   lists_maps increasing = record { increasing = increasing_in_cells c c' os p.cell p.cell' increasing; exact = λ a. (forth a, back a) }
     where
       forth : (a : AffineMap) → IsMember a (map (shifted (steps c c')) os) → Takes c c' a
-      forth a m = let k = from (shifted (steps c c')) os a m in subst (Takes c c') (sym k.is) (takes_of_map c c' p k.x ((found k.x).0 k.of_list).is_map)
+      forth a m = let k = mapped_from (shifted (steps c c')) a os m in subst (Takes c c') (sym k.is) (takes_of_map c c' p k.item ((found k.item).0 k.of_list).is_map)
 
       back : (a : AffineMap) → Takes c c' a → IsMember a (map (shifted (steps c c')) os)
       back a h = let k = map_of_takes c c' p a h in subst (λ (b : AffineMap). IsMember b (map (shifted (steps c c')) os)) (sym k.is) (listed k.operation k.is_map)
@@ -98,8 +77,8 @@ module _ (c c' : Structure) (p : ArePrimitive c c') (niggli : IsNiggli c.metric)
   -- where there is a map, it tells of both groups
   pub maps_alike : IsIncreasing compare_of os → (a : AffineMap) → IsMember a (map (shifted (steps c c')) os) → HaveGroupsAlike c c' (map (shifted (steps c c')) os)
   maps_alike increasing a m =
-      let k = from (shifted (steps c c')) os a m in
-      let o = k.x in
+      let k = mapped_from (shifted (steps c c')) a os m in
+      let o = k.item in
       let is_map = ((found o).0 k.of_list).is_map in
       let exact : (h : Operation) → IsMember h os ↔ IsMap c c' h = λ h. ((λ l. ((found h).0 l).is_map), (λ i. (found h).1 (record { small = isometry_small c c' h.matrix p.cell p.cell' niggli niggli' i.isometry; is_map = i }))) in
       let once = increasing_distinct compare_of compare_total os increasing in

@@ -3,16 +3,16 @@
 --
 -- Two atoms that go to one atom differ by whole cells, so they are one: the map is one-to-one on the atoms, and reaches as
 -- many atoms as there are. The other way round, a map onto gives each atom of the second one of the first, one-to-one too.
-use Rattle.std.proofs.Common.{◌≡◌, ℕ, suc, zero, ◌≤◌, ◌⊎◌, inl, inr, List, [], ◌∷◌, length, pos, negsuc, ◌*ℤ◌, ◌<ℤ◌, refl, sym, ap, subst, ◌∙◌, arith}
+use Rattle.std.proofs.Common.{◌≡◌, ℕ, inl, inr, List, [], ◌∷◌, length, pos, negsuc, ◌*ℤ◌, ◌<ℤ◌, refl, sym, ap, subst, ◌∙◌, arith}
 use Rattle.std.specs.Prelude.{◌↔◌}
 use Rattle.std.proofs.lemmas.Int.{ints}
+use Rattle.lists.specs.Increasing.{IsMember}
+use Rattle.lists.proofs.Counting.{covered, into_le}
 use Rattle.crystal_spec.specs.declared.Sign.{Sign}
-use Rattle.crystal_spec.specs.Increasing.{IsMember, IsDistinct}
 use Rattle.crystal_spec.specs.Matrices.{Triple, Matrix, image, determinant, adjugate, multiple, sum_of}
 use Rattle.crystal_spec.specs.Moments.{moment_matrix}
 use Rattle.crystal_spec.specs.Crystals.{Site, Structure, Occupied}
 use Rattle.crystal_spec.specs.Operations.{sign_factor}
-use Rattle.crystal_spec.proofs.Counting.{Into, covered}
 use Rattle.crystal_spec.proofs.Images.{same_within, occupied_itself}
 use Rattle.basis_spec.proofs.MatrixLaws.{image-multiple, image-sum_of, image-matrix_multiple, image-image_adjugate, multiple_swap, multiple-sum_of, sum_assoc, sum_swap, subtract_add, add_difference}
 use Rattle.basis_spec.proofs.Cancelling.{multiple_cancel, sum_cancel, unit_twice}
@@ -22,27 +22,6 @@ use Rattle.prim_cell.proofs.Moving.{some_cells}
 use Rattle.crystal_compare.specs.Maps.{HaveOneName}
 use Rattle.crystal_compare.specs.Search.{IsMovedTo, HasMovedTo, IsMovedFrom, MapsOnto, moments_of, IsSiteCarried, HasSiteImage, HaveSiteImages}
 use Rattle.crystal_compare.proofs.WholeBetween.{image_told}
-
--- a list without repeats that goes one-to-one into another is no longer than it
-pub into_le : {X Y : Type 0} (R : X → Y → Type 0) (xs : List X) (ys : List Y) → IsDistinct xs → Into R xs ys → length xs ≤ length ys
-into_le R [] ys d m = omega arith
-into_le {X} {Y} R (x ∷ xs) ys d m = by (fits_or (length ys) (length xs))
-  where
-    fits_or : (a b : ℕ) → (a ≤ b) ⊎ (suc b ≤ a)
-    fits_or zero b = inl (omega arith)
-    fits_or (suc a) zero = inr (omega arith)
-    fits_or (suc a) (suc b) = one (fits_or a b)
-      where
-        one : (a ≤ b) ⊎ (suc b ≤ a) → (suc a ≤ suc b) ⊎ (suc (suc b) ≤ suc a)
-        one (inl h) = inl (omega arith)
-        one (inr h) = inr (omega arith)
-
-    by : (length ys ≤ length xs) ⊎ (suc (length xs) ≤ length ys) → length (x ∷ xs) ≤ length ys
-    by (inr h) = h
-    by (inl h) =
-        let k = m.right x (inl refl) in
-        let w = covered R xs ys d.1 h (record { right = λ v p. m.right v (inr p); one_left = λ u v y p q. m.one_left u v y (inr p) (inr q) }) k.0 k.1.0 in
-        absurd (d.0 (subst (λ (z : X). IsMember z xs) (sym (m.one_left x w.0 k.0 (inl refl) (inr w.1.0) k.1.1 w.1.1)) w.1.0))
 
 pub site_image_member : (c c' : Structure) (w : Matrix) (t : Triple) (l : Matrix) (xs : List Site) (a : Site) → HaveSiteImages c c' w t l xs → IsMember a xs → HasSiteImage c c' w t l a
 site_image_member c c' w t l [] a h m = absurd m

@@ -6,6 +6,7 @@
 use Rattle.std.proofs.Common.{◌≡◌, ℕ, List, [], ◌∷◌, ◌++◌, ℤ, pos, negsuc, ◌*ℤ◌, ◌<ℤ◌, refl, sym, ap, ◌∙◌}
 use Rattle.std.specs.Prelude.{Some}
 use Rattle.ring.specs.Ring.{quoted, var, con, ◌:*◌}
+use Rattle.lists.proofs.Members.{same_at}
 use Rattle.matrix3.specs.Matrices.{entries, coordinates, matrix_of_variables, vector_of_variables}
 use Rattle.matrix3.specs.Matrices as formulas
 use Rattle.crystal_spec.specs.declared.MomentKind.{MomentKind}
@@ -22,7 +23,6 @@ use Rattle.basis_spec.specs.Metrics.{matrix_multiple, metric_in}
 use Rattle.basis_spec.proofs.MatrixLaws.{image-product, image-multiple, multiple_swap, matrix_multiple-twice, metric_in-product, metric_in-multiple_metric, metric_in-identity}
 use Rattle.basis_spec.proofs.Cancelling.{multiple_cancel, matrix_multiple_cancel}
 use Rattle.crystal_compare.specs.Maps.{HaveOneName, CarriesMetric}
-use Rattle.crystal_compare.proofs.Names.{same_at}
 use Rattle.crystal_compare.proofs.Inverses.{inverse, inverse_undoes, inverse_before, inverse_after, inverse_unit}
 
 pub record IsSentTo (d : ℤ) (a b : Structure) (w : Matrix) (t : Triple) (sign : Sign) (s : ℕ) (p m : Triple) (r : ℕ) (q l : Triple) : Type 0 where

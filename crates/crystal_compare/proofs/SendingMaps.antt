@@ -6,6 +6,7 @@ use Rattle.std.specs.Prelude.{Some, slice_get}
 use Rattle.std.proofs.lemmas.Int.{ints}
 use Rattle.ring.specs.Ring.{quoted, var, ◌:*◌}
 use Rattle.ring.proofs.IntOrder.{mul_pos}
+use Rattle.lists.proofs.Distinct.{one_place}
 use Rattle.matrix3.specs.Matrices.{coordinates, vector_of_variables}
 use Rattle.matrix3.specs.Matrices as formulas
 use Rattle.crystal_spec.specs.declared.Sign.{Sign}
@@ -17,11 +18,11 @@ use Rattle.crystal_spec.proofs.Identities.{by_triples}
 use Rattle.crystal_spec.proofs.Images.{occupied_itself}
 use Rattle.crystal_spec.proofs.Isometries.{determinant-isometry, sign_squared}
 use Rattle.basis_spec.specs.Metrics.{matrix_multiple, metric_in}
-use Rattle.basis_spec.specs.Positions.{residue}
+use Rattle.positions.specs.Positions.{modulo}
 use Rattle.basis_spec.specs.Maps.{Takes}
 use Rattle.basis_spec.proofs.Cancelling.{multiple_cancel, matrix_multiple_cancel}
 use Rattle.basis_spec.proofs.Translations.{occupied_as}
-use Rattle.basis_spec.proofs.Residues.{residue_away, residue_within}
+use Rattle.positions.proofs.Residues.{modulo_away, modulo_within}
 use Rattle.basis_spec.proofs.PrimitiveCell.{differs_sym}
 use Rattle.basis_spec.proofs.OperationLists.{keeps_differs}
 use Rattle.basis_spec.proofs.WholeMaps.{takes_of_keeps, keeps_of_takes}
@@ -29,7 +30,6 @@ use Rattle.crystal.specs.Cells.{IsCellWithinLimits}
 use Rattle.crystal.proofs.CellLemmas.{is_cell}
 use Rattle.crystal_compare.specs.Maps.{HaveOneName}
 use Rattle.crystal_compare.specs.Search.{steps, MapsOnto, moments_of, IsMap}
-use Rattle.crystal_compare.proofs.Names.{one_place}
 use Rattle.crystal_compare.proofs.Carried.{moment_is}
 use Rattle.crystal_compare.proofs.AnyCarried.{moves_near}
 use Rattle.crystal_compare.proofs.Inverses.{AreCellsApart}
@@ -92,12 +92,12 @@ pub record MapOfSent (c c' : Structure) (w : Matrix) (t : Triple) (s : Sign) : T
 
 pub map_of_sent : (c c' : Structure) (w : Matrix) (t : Triple) (s : Sign) → HasUnits c → HasUnits c' → Sends (pos c.n *ℤ pos c'.n) c c' w t s → MapOfSent c c' w t s
 map_of_sent c c' w t s units units' f = record {
-  operation = record { matrix = w; translation = residue (steps c c') t; sign = s };
+  operation = record { matrix = w; translation = modulo (steps c c') t; sign = s };
   is_map = record {
-    within = residue_within (steps c c') t above;
+    within = modulo_within (steps c c') t above;
     same_kind = f.same_kind;
     isometry = record { unimodular = f.unimodular; metric = f.metric };
-    onto = moves_near c c' w t (residue (steps c c') t) away.cells (pos c.k) (moments_of c c' w s) away.is moves;
+    onto = moves_near c c' w t (modulo (steps c c') t) away.cells (pos c.k) (moments_of c c' w s) away.is moves;
   };
   matrix_is = refl;
   sign_is = refl;
@@ -107,8 +107,8 @@ map_of_sent c c' w t s units units' f = record {
     above : pos 0 <ℤ (pos c.n *ℤ pos c'.n)
     above = mul_pos (pos c.n) (pos c'.n) units.n units'.n
 
-    away : AreCellsApart (pos c.n *ℤ pos c'.n) t (residue (steps c c') t)
-    away = let d = residue_away (steps c c') t above in record { cells = d.cells; is = d.is }
+    away : AreCellsApart (pos c.n *ℤ pos c'.n) t (modulo (steps c c') t)
+    away = let d = modulo_away (steps c c') t above in record { cells = d.cells; is = d.is }
 
     nearer : (p q : Triple) → multiple (pos c.n *ℤ (pos c.n *ℤ pos c'.n)) q ≡ sum_of (multiple (pos c'.n *ℤ (pos c.n *ℤ pos c'.n)) (image w p)) (multiple (pos c'.n *ℤ pos c.n) t) → multiple (pos c.n) q ≡ sum_of (multiple (pos c'.n) (image w p)) t
     nearer p q e = multiple_cancel (pos c.n *ℤ pos c'.n) (multiple (pos c.n) q) (sum_of (multiple (pos c'.n) (image w p)) t) above (sym (scaled (pos c.n) (pos c'.n) q) ∙ e ∙ sym (scaled_sum (pos c.n) (pos c'.n) (image w p) t))
@@ -256,14 +256,14 @@ module _ (c : Structure) (limits : IsCellWithinLimits c) (e : ℤ) (e_above : po
 
     pub operation_of_sent : OperationOfSent w t s
     operation_of_sent =
-        let away = residue_away c.n v units.n in
+        let away = modulo_away c.n v units.n in
         record {
-          operation = record { matrix = w; translation = residue c.n v; sign = s };
+          operation = record { matrix = w; translation = modulo c.n v; sign = s };
           is_operation = record {
-            translation = residue_within c.n v units.n;
-            keeps = keeps_differs c w v (residue c.n v) (sign_factor s) (differs_sym away) (keeps_of_takes c w v (sign_factor s) cell.positive (sign_squared s) takes);
+            translation = modulo_within c.n v units.n;
+            keeps = keeps_differs c w v (modulo c.n v) (sign_factor s) (differs_sym away) (keeps_of_takes c w v (sign_factor s) cell.positive (sign_squared s) takes);
           };
           matrix_is = refl;
           sign_is = refl;
-          apart = record { cells = away.cells; is = sym v_is ∙ ap (multiple e) away.is ∙ spread (residue c.n v) away.cells };
+          apart = record { cells = away.cells; is = sym v_is ∙ ap (multiple e) away.is ∙ spread (modulo c.n v) away.cells };
         }

@@ -19,7 +19,7 @@ use Rattle.crystal_spec.specs.Matrices.{Triple, multiple, sum_of, difference}
 use Rattle.crystal_spec.proofs.Entrywise.{triple_same}
 use Rattle.crystal_spec.proofs.Identities.{by_integers}
 use Rattle.basis_spec.proofs.Positive.{pos_of_mul}
-use Rattle.basis_spec.proofs.Residues.{euclid, remainder_within}
+use Rattle.positions.proofs.Residues.{euclid, remainder_within}
 use Rattle.crystal_compare.specs.Maps.{IsMoreBy, IsMovedBy, IsWithinOne}
 use Rattle.crystal_compare.specs.AnyMaps.{modulo_one}
 use Rattle.crystal_compare.specs.Lists.{fraction_order}

@@ -11,26 +11,12 @@ use Rattle.ring.specs.Size.{AtMost}
 use Rattle.ring.proofs.Sizes.{at_most_mul, at_most_add, weaken}
 use Rattle.matrix3.specs.Fits.{DotFits, ImageFits}
 use Rattle.crystal_spec.specs.Matrices.{Matrix, Triple, image}
-use Rattle.crystal.specs.Bounds.{EntriesAtMost, CoordinatesAtMost}
-use Rattle.crystal.proofs.Ranges.{grown, at_most_image, coordinates_grown, image_fits}
+use Rattle.matrix3.specs.Bounds.{EntriesAtMost, CoordinatesAtMost}
+use Rattle.matrix3.proofs.FitsBySize.{grown, image_size, coordinates_grown, image_fits}
 
 -- the image of a moment
 pub moment_image : (l : Matrix) (m : Triple) → EntriesAtMost 1 l → CoordinatesAtMost (2 * 10 ^ 27) m → CoordinatesAtMost (10 ^ 28) (image l m)
-moment_image l m h k = coordinates_grown {v = image l m} (lit≤ tt) (at_most_image 1 (2 * 10 ^ 27) l m h k)
-
--- the products and sums of a metric tensor in common units applied to a small column
-pub metric_image_fits : (g : Matrix) (v : Triple) → EntriesAtMost (10 ^ 34) g → CoordinatesAtMost 1 v → ImageFits int_ops (AtMost (10 ^ 36)) g v
-metric_image_fits g v h k = image_fits (10 ^ 34) 1 g v (lit≤ tt) h k
-
--- those of a small column and that image
-pub products_fit : (g : Matrix) (u v w : Triple) → EntriesAtMost (10 ^ 34) g → CoordinatesAtMost 1 u → CoordinatesAtMost 1 v → w ≡ image g v → DotFits int_ops (AtMost (10 ^ 36)) u.x u.y u.z w.x w.y w.z
-products_fit g u v w h s k e =
-    let n = 10 ^ 34 * 1 + 10 ^ 34 * 1 + 10 ^ 34 * 1 in
-    let r : CoordinatesAtMost n w = subst (CoordinatesAtMost n) (sym e) (at_most_image (10 ^ 34) 1 g v h k) in
-    let x = at_most_mul s.x r.x in
-    let y = at_most_mul s.y r.y in
-    let z = at_most_mul s.z r.z in
-    record { first = weaken (10 ^ 36) x tt; second = weaken (10 ^ 36) y tt; third = weaken (10 ^ 36) z tt; two = weaken (10 ^ 36) (at_most_add x y) tt; three = weaken (10 ^ 36) (at_most_add (at_most_add x y) z) tt }
+moment_image l m h k = coordinates_grown {v = image l m} (lit≤ tt) (image_size l m h k)
 
 -- translation parts within one cell, in steps
 pub steps_small : (n m : ℕ) (t : Triple) → n ≤ 10 ^ 6 → m ≤ 10 ^ 6 → IsWithinCell (n * m) t → CoordinatesAtMost (10 ^ 14) t

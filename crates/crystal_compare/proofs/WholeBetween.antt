@@ -7,7 +7,7 @@ use Rattle.std.proofs.Common.{◌≡◌, ℕ, suc, zero, ℤ, pos, negsuc, ◌*�
 use Rattle.std.proofs.lemmas.Int.{ints}
 use Rattle.ring.specs.Ring.{var, ◌:*◌}
 use Rattle.ring.proofs.IntOrder.{mul_pos}
-use Rattle.crystal_spec.specs.Increasing.{IsDistinct}
+use Rattle.lists.specs.Increasing.{IsDistinct}
 use Rattle.crystal_spec.specs.Matrices.{Triple, Matrix, image, determinant, adjugate, multiple, sum_of, identity}
 use Rattle.crystal_spec.specs.Crystals.{Structure, Occupied}
 use Rattle.crystal_spec.proofs.Identities.{by_integers}

@@ -7,10 +7,10 @@
 use Rattle.std.specs.Prelude.{◌≡◌, ℕ, pos, ◌*ℤ◌, ◌≤ℤ◌, ◌<ℤ◌, List}
 use Rattle.std.specs.Int.{int_rem_euclid}
 use Rattle.numbers.specs.Fraction.{Fraction, lowest}
+use Rattle.lists.specs.Increasing.{IsMember}
 use Rattle.matrix3.specs.declared.vector.Vec3.{Vec3}
 use Rattle.matrix3.specs.Matrices.{vector_map, EachCoordinate}
 use Rattle.crystal_spec.specs.declared.Sign.{Sign}
-use Rattle.crystal_spec.specs.Increasing.{IsMember}
 use Rattle.crystal_spec.specs.Matrices.{Triple, Matrix, image, multiple, determinant}
 use Rattle.crystal_spec.specs.Moments.{axial_factor, turn_matrix, divisor}
 use Rattle.crystal_spec.specs.Crystals.{Structure, Occupied}

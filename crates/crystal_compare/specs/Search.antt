@@ -12,7 +12,6 @@
 --   IsMap c c' o                o maps c onto c', by its matrix, its translation part in steps and its sign
 --   IsFoldedOnto c c' w a b t   t is the translation part, within one cell, with which w carries a position onto another
 --   IsMapAs, IsMapOnto, IsMapOntoNumber, IsMapBy    the maps that are found for one operation, atom and matrix
---   AnyBelow k P                P holds of a number below k
 --   AreMetricsOf c c' g g'      the two metric tensors in common units
 --   IsSecondColumn, IsThirdColumn    lengths and products of columns are those of the axes
 --   IsMapOfTwo, IsMapOfOne, IsMapOfColumns    maps whose first two columns, first column or none are given, the others
@@ -20,16 +19,18 @@
 --   shifted n o                 the map of o, whose translation part is in units of 1/n
 use Rattle.std.specs.Prelude.{◌≡◌, ℕ, ◌*◌, ◌^◌, ◌<◌, ℤ, pos, ◌+ℤ◌, ◌*ℤ◌, ◌≤ℤ◌, ◌<ℤ◌, List, [], ◌∷◌, slice_get, Some}
 use Rattle.numbers.specs.Fraction.{lowest}
+use Rattle.lists.specs.Increasing.{IsMember}
+use Rattle.lists.specs.Any.{AnyBelow}
 use Rattle.crystal_spec.specs.declared.Sign.{Sign}
-use Rattle.crystal_spec.specs.Increasing.{IsMember}
 use Rattle.crystal_spec.specs.Matrices.{Triple, Matrix, image, determinant, multiple, sum_of, difference}
 use Rattle.crystal_spec.specs.Moments.{moment_matrix}
 use Rattle.crystal_spec.specs.Crystals.{Site, Structure, Occupied}
 use Rattle.crystal_spec.specs.Operations.{Operation, sign_factor, IsWithinCell}
 use Rattle.basis_spec.specs.Metrics.{matrix_multiple}
-use Rattle.crystal.specs.Bounds.{EntriesAtMost}
-use Rattle.crystal.specs.Carrying.{FoldsTo}
-use Rattle.lattice_iso.specs.Columns.{candidate, scalar_product, of_columns}
+use Rattle.matrix3.specs.Bounds.{EntriesAtMost}
+use Rattle.positions.specs.Positions.{IsModulo}
+use Rattle.lattice_iso.specs.Columns.{candidate, scalar_product}
+use Rattle.matrix3.specs.Matrices.{of_columns}
 use Rattle.crystal_compare.specs.Maps.{AffineMap, HaveOneName, CarriesMetric}
 
 abbrev pub steps : Structure → Structure → ℕ
@@ -127,7 +128,7 @@ pub record IsMap (c c' : Structure) (o : Operation) : Type 0 where
 
 -- n q less n' W p, within one cell
 abbrev pub IsFoldedOnto : Structure → Structure → Matrix → Triple → Triple → Triple → Type 0
-IsFoldedOnto c c' w p q t = FoldsTo (steps c c') (difference (multiple (pos c.n) q) (multiple (pos c'.n) (image w p))) t
+IsFoldedOnto c c' w p q t = IsModulo (steps c c') (difference (multiple (pos c.n) q) (multiple (pos c'.n) (image w p))) t
 
 pub record IsMapOnto (c c' : Structure) (w : Matrix) (a b : Site) (o : Operation) : Type 0 where
   pub same_matrix : o.matrix ≡ w
@@ -154,11 +155,6 @@ pub record IsMapBy (c c' : Structure) (w : Matrix) (o : Operation) : Type 0 wher
 pub record IsSmallMap (c c' : Structure) (o : Operation) : Type 0 where
   pub small : EntriesAtMost 1 o.matrix
   pub is_map : IsMap c c' o
-
-pub record AnyBelow (k : ℕ) (P : ℕ → Type 0) : Type 0 where
-  pub number : ℕ
-  pub below : number < k
-  pub holds : P number
 
 -- the metric tensors in common units: each times the scale of the other cell
 pub record AreMetricsOf (c c' : Structure) (g g' : Matrix) : Type 0 where

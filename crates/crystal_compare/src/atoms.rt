@@ -3,8 +3,9 @@
 ghost use Rattle.std.specs.Prelude.{◌≡◌, ◌↔◌, ◌<◌, ◌≤◌, ◌*◌, ◌^◌, length, pos, IsTrue};
 ghost use Rattle.ring.specs.Size.{AtMost};
 ghost use Rattle.crystal_spec.specs.Matrices.{image, multiple};
-ghost use Rattle.crystal.specs.Views.{site_of, triple_of};
-ghost use Rattle.crystal.specs.Bounds.{EntriesAtMost, CoordinatesAtMost};
+ghost use Rattle.crystal.specs.Views.{site_of};
+ghost use Rattle.positions.specs.Positions.{triple_of};
+ghost use Rattle.matrix3.specs.Bounds.{EntriesAtMost, CoordinatesAtMost};
 ghost use Rattle.crystal_compare.specs.Maps.{HaveOneName};
 ghost use Rattle.crystal_compare.specs.Search.{HaveOneMoment};
 
@@ -12,39 +13,13 @@ use crystal::{Atom, Cell, Name};
 use exact_num::Int;
 use matrix3::{Mat3, Vec3};
 
-/// A natural number as an exact integer.
-pub(crate) fn whole(number: u32) -> Int
-    ensures value { result ≡ pos number }
-    ensures size { AtMost (2 ^ 32) result }
-{
-    Int::new(number as i128).unwrap()
-}
-
-/// A position as a column of integers.
-pub(crate) fn column(place: [u32; 3]) -> Vec3<Int>
-    ensures value { result ≡ triple_of place }
-    ensures size { CoordinatesAtMost (2 ^ 32) result }
-{
-    Vec3 {
-        x: whole(place[0]),
-        y: whole(place[1]),
-        z: whole(place[2]),
-    }
-}
-
 /// A column times a number.
 pub(crate) fn multiple(k: u32, v: &Vec3<Int>) -> Vec3<Int>
     requires factor { k ≤ 10 ^ 6 }
     requires coordinates { CoordinatesAtMost (10 ^ 28) v.now }
     ensures value { result ≡ multiple (pos k) v.now }
 {
-    let k = whole(k);
-    let v = *v;
-    Vec3 {
-        x: k * v.x,
-        y: k * v.y,
-        z: k * v.z,
-    }
+    v.multiple(Int::from(k))
 }
 
 /// Whether two names are one.

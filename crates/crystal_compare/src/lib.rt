@@ -12,8 +12,6 @@ mod list;
 mod map;
 mod matrices;
 mod search;
-#[cfg(test)]
-mod tests;
 mod whole_map;
 
 pub use list::{MapList, all_maps};

@@ -2,10 +2,10 @@
 
 ghost use Rattle.std.specs.Prelude.{◌≡◌, ◌<◌, ◌^◌, ◌≤ℤ◌, ◌<ℤ◌, ℕ, List, pos, length, map, slice_get, Some, IfOk};
 ghost use Rattle.numbers.specs.Fraction.{Fraction, lowest};
+ghost use Rattle.lists.specs.Increasing.{IsIncreasing, IsMember};
 ghost use Rattle.matrix3.specs.declared.vector.Vec3.{Vec3 as Column};
 ghost use Rattle.exact_num.specs.Meanings.{fraction_of};
 ghost use Rattle.crystal_spec.specs.declared.Sign.{Sign as TimeSign};
-ghost use Rattle.crystal_spec.specs.Increasing.{IsIncreasing, IsMember};
 ghost use Rattle.crystal_spec.specs.Matrices.{Matrix};
 ghost use Rattle.crystal_spec.specs.Operations.{Operation, IsWithinCell};
 ghost use Rattle.crystal_compare.specs.Lists.{map_of, map_order, ListsMaps};
@@ -15,7 +15,6 @@ ghost use Rattle.crystal_compare.specs.Groups.{HaveGroupsAlike};
 ghost use Rattle.crystal_compare.specs.Steps.{operation_of};
 ghost use Rattle.crystal_compare.specs.Search.{steps, shifted};
 
-use crate::atoms::whole;
 use crate::map::CrystalMap;
 use crate::search::all_small;
 use crate::whole_map::{WholeMap, WholeMaps};
@@ -35,7 +34,7 @@ pub struct MapList {
 
 impl Model for MapList {
     ghost use Rattle.std.specs.Prelude.{List, map};
-    ghost use Rattle.crystal_spec.specs.Increasing.{IsIncreasing};
+    ghost use Rattle.lists.specs.Increasing.{IsIncreasing};
     ghost use Rattle.crystal_compare.specs.Maps.{AffineMap};
     ghost use Rattle.crystal_compare.specs.Lists.{map_of, map_order};
 
@@ -81,7 +80,7 @@ fn step_count(one: &Cell, other: &Cell) -> Int
 {
     let _one = one.count();
     let _other = other.count();
-    whole(one.n()) * whole(other.n())
+    Int::from(one.n()) * Int::from(other.n())
 }
 
 /// A map with its translation part as fractions, where it is in units of 1/n.

@@ -4,7 +4,7 @@ ghost use Rattle.std.specs.Prelude.{◌≡◌, ◌↔◌, ◌*◌, ◌^◌, ◌�
 ghost use Rattle.ring.specs.Size.{AtMost};
 ghost use Rattle.crystal_spec.specs.Matrices.{determinant, matrix_multiple};
 ghost use Rattle.basis_spec.specs.Metrics.{metric_in};
-ghost use Rattle.crystal.specs.Bounds.{EntriesAtMost};
+ghost use Rattle.matrix3.specs.Bounds.{EntriesAtMost};
 ghost use Rattle.crystal_compare.specs.Maps.{CarriesMetric};
 ghost use Rattle.crystal_compare.specs.Search.{AreMetricsOf, IsIsometry};
 
@@ -41,18 +41,7 @@ fn multiple(k: Int, a: &Mat3<Int>) -> Mat3<Int>
     ensures value { result ≡ matrix_multiple k a.now }
     ensures size { EntriesAtMost (10 ^ 34) result }
 {
-    let a = *a;
-    Mat3 {
-        a11: k * a.a11,
-        a12: k * a.a12,
-        a13: k * a.a13,
-        a21: k * a.a21,
-        a22: k * a.a22,
-        a23: k * a.a23,
-        a31: k * a.a31,
-        a32: k * a.a32,
-        a33: k * a.a33,
-    }
+    a.multiple(k)
 }
 
 /// The metric tensor in the basis whose vectors are the columns of a matrix of small entries.

@@ -2,26 +2,26 @@
 
 ghost use Rattle.std.specs.Prelude.{◌≡◌, ◌↔◌, ◌⊎◌, ◌<◌, ◌≤◌, ◌*◌, ◌^◌, ◌<ℤ◌, ℕ, pos, length, IfOk, OnOk};
 ghost use Rattle.ring.specs.Size.{AtMost};
-ghost use Rattle.crystal_spec.specs.Increasing.{IsMember};
+ghost use Rattle.lists.specs.Increasing.{IsMember};
 ghost use Rattle.crystal_spec.specs.Matrices.{determinant, difference, image, multiple};
 ghost use Rattle.crystal_spec.specs.Operations.{Operation, IsWithinCell};
-ghost use Rattle.crystal.specs.Views.{site_of, triple_of};
-ghost use Rattle.crystal.specs.Bounds.{EntriesAtMost, CoordinatesAtMost};
-ghost use Rattle.crystal.specs.Carrying.{FoldsTo};
-ghost use Rattle.lattice_iso.specs.Columns.{of_columns};
+ghost use Rattle.crystal.specs.Views.{site_of};
+ghost use Rattle.positions.specs.Positions.{triple_of, IsModulo};
+ghost use Rattle.matrix3.specs.Bounds.{EntriesAtMost, CoordinatesAtMost};
+ghost use Rattle.matrix3.specs.Matrices.{of_columns};
 ghost use Rattle.crystal_compare.specs.Steps.{operation_of};
 ghost use Rattle.crystal_compare.specs.Search.{steps, AreMetricsOf, IsFolded, IsIsometry, IsMapAs, IsMapOnto, IsMapBy, IsMapOfTwo, IsMapOfOne, IsMapOfColumns, IsSmallMap, IsFoldedOnto};
 
-use crate::atoms::{column, have_one_name, is_alike, multiple, whole};
-use crate::columns::{
-    CANDIDATES, candidate, is_first_column, is_second_column, is_third_column, of_columns,
-};
+use crate::atoms::{have_one_name, is_alike, multiple};
+use crate::columns::{is_first_column, is_second_column, is_third_column};
 use crate::images::is_onto;
 use crate::matrices::{Metrics, is_isometry, metrics_of};
 use crate::whole_map::{WholeMap, WholeMaps};
 use crystal::{Atom, Cell, Places, Sign};
 use exact_num::Int;
+use lattice_iso::{CANDIDATES, candidate};
 use matrix3::{Mat3, Vec3};
+use positions::column;
 use std::alloc::{AllocError, Global};
 
 /// The number from 0 to n - 1 from which z differs by a multiple of n.
@@ -41,12 +41,12 @@ fn translation_onto(w: &Mat3<Int>, from: [u32; 3], onto: [u32; 3], n: u32, m: u3
     requires n_at_most { n ≤ 10 ^ 6 }
     requires m_at_least { 1 ≤ m }
     requires m_at_most { m ≤ 10 ^ 6 }
-    ensures { FoldsTo (n * m) (difference (multiple (pos n) (triple_of onto)) (multiple (pos m) (image w.now (triple_of from)))) result }
+    ensures { IsModulo (n * m) (difference (multiple (pos n) (triple_of onto)) (multiple (pos m) (image w.now (triple_of from)))) result }
 {
     let image = w.apply(&column(from));
     let u = multiple(n, &column(onto));
     let v = multiple(m, &image);
-    let all = whole(n) * whole(m);
+    let all = Int::from(n) * Int::from(m);
     Vec3 {
         x: folded(u.x - v.x, all),
         y: folded(u.y - v.y, all),
@@ -182,7 +182,7 @@ fn add_of_columns(
     requires c { CoordinatesAtMost 1 c.now }
     ensures members { OnOk result ((o : Operation) → IsMember o found.new ↔ (IsMapBy one.now other.now (of_columns a.now b.now c.now) o ⊎ IsMember o found.old)) }
 {
-    let w = of_columns(a, b, c);
+    let w = Mat3::of_columns(a, b, c);
     if is_isometry(one, other.cell(), &w) {
         add_by(one, other, &w, from, found)?;
     }

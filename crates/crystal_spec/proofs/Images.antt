@@ -5,9 +5,10 @@ use Rattle.std.specs.Prelude.{ℤ, pos, negsuc, ◌+ℤ◌, ◌*ℤ◌, ◌≤�
 use Rattle.std.proofs.lemmas.Int.{ints}
 use Rattle.std.proofs.Math.Nat.{mul-le-mul_left}
 use Rattle.ring.specs.Ring.{quoted, var, con}
+use Rattle.lists.specs.Increasing.{IsMember, IsDistinct}
+use Rattle.lists.proofs.Counting.{covered}
 use Rattle.matrix3.specs.Matrices.{coordinates, vector_of_variables}
 use Rattle.matrix3.specs.Matrices as formulas
-use Rattle.crystal_spec.specs.Increasing.{IsMember, IsDistinct}
 use Rattle.crystal_spec.specs.Matrices.{Matrix, Triple, determinant, adjugate, image, multiple, sum_of, difference}
 use Rattle.crystal_spec.specs.Crystals.{Site, Structure, IsPositive, Occupied, KeepsMetric, Keeps, position_after, moment_after}
 use Rattle.crystal_spec.specs.Operations.{IsWithinCell}
@@ -15,7 +16,6 @@ use Rattle.crystal_spec.specs.Cells.{HasOneAtomEach}
 use Rattle.crystal_spec.proofs.Entrywise.{triple_same}
 use Rattle.crystal_spec.proofs.Identities.{by_triples}
 use Rattle.crystal_spec.proofs.Isometries.{determinant-isometry}
-use Rattle.crystal_spec.proofs.Counting.{covered}
 use Rattle.crystal_spec.proofs.Keeping.{HasImages, HasPreimages, same_cells, keeps_both_ways}
 
 -- the atoms are within one cell, and no two are at one position

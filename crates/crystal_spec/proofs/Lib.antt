@@ -3,7 +3,6 @@ pub mod Identities
 pub mod MatrixLaws
 pub mod Isometries
 pub mod Moments
-pub mod Counting
 pub mod Keeping
 pub mod Images
 pub mod Ordered

@@ -4,7 +4,7 @@
 --   IsCell c               c is a cell: a symmetric, positive metric tensor, and atoms within the cell, one at a position
 -- Our own; the metric tensor as in [ITB].
 use Rattle.std.specs.Prelude.{◌≡◌, ℕ, pos, ◌<ℤ◌, ◌<◌, length}
-use Rattle.crystal_spec.specs.Increasing.{IsMember}
+use Rattle.lists.specs.Increasing.{IsMember}
 use Rattle.crystal_spec.specs.Matrices.{Triple, transposed, multiple, sum_of}
 use Rattle.crystal_spec.specs.Crystals.{Site, Structure, IsPositive}
 use Rattle.crystal_spec.specs.Operations.{IsWithinCell}

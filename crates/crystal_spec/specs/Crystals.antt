@@ -8,8 +8,8 @@
 --   moment_after kind w s m   the moment of this kind that the map of matrix w and time sign s makes of m
 --   Keeps c w t s         the map keeps the metric and carries the infinite crystal onto itself
 use Rattle.std.specs.Prelude.{◌≡◌, ◌↔◌, ℕ, ℤ, pos, ◌-ℤ◌, ◌*ℤ◌, ◌<ℤ◌, List}
+use Rattle.lists.specs.Increasing.{IsMember}
 use Rattle.crystal_spec.specs.declared.MomentKind.{MomentKind}
-use Rattle.crystal_spec.specs.Increasing.{IsMember}
 use Rattle.crystal_spec.specs.Matrices.{Triple, Matrix, product, image, transposed, determinant, multiple, sum_of}
 use Rattle.crystal_spec.specs.Moments.{moment_matrix}
 

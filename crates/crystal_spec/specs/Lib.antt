@@ -1,4 +1,3 @@
-pub mod Increasing
 pub mod Matrices
 pub mod Moments
 pub mod Crystals

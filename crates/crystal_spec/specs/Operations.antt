@@ -8,12 +8,12 @@ use Rattle.std.specs.Prelude.{◌≡◌, ◌↔◌, ℕ, ℤ, pos, negsuc, ◌�
 use Rattle.std.specs.declared.cmp.Ordering.{Ordering}
 use Rattle.std.specs.Ordering.{int_cmp}
 use Rattle.std.specs.Cmp.Lexicographic.{slice_cmp}
+use Rattle.lists.specs.Increasing.{IsIncreasing, IsMember}
 use Rattle.matrix3.specs.Matrices.{entries, coordinates}
 use Rattle.crystal_spec.specs.declared.Sign.{Sign}
 use Rattle.crystal_spec.specs.declared.Sign.TheVariants.{Same, Reversed}
 use Rattle.crystal_spec.specs.Matrices.{Triple, Matrix}
 use Rattle.crystal_spec.specs.Crystals.{Structure, Keeps}
-use Rattle.crystal_spec.specs.Increasing.{IsIncreasing, IsMember}
 
 pub record Operation : Type 0 where
   pub matrix : Matrix

@@ -68,6 +68,26 @@ impl Int {
     }
 }
 
+impl From<u32> for Int {
+    ghost from_gives = { λ number z. z ≡ pos number };
+
+    fn from(number: u32) -> Int {
+        Int {
+            value: number as i128,
+        }
+    }
+}
+
+impl From<i8> for Int {
+    ghost from_gives = { λ number z. z ≡ number };
+
+    fn from(number: i8) -> Int {
+        Int {
+            value: number as i128,
+        }
+    }
+}
+
 impl Add<Int> for Int {
     type Output = Int;
 

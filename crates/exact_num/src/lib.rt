@@ -10,8 +10,6 @@ mod exact;
 mod frac;
 mod int;
 mod residue;
-#[cfg(test)]
-mod tests;
 
 pub use divisor::{gcd, lcm_within};
 pub use exact::Exact;

@@ -1,8 +1,8 @@
 mod KnownValues
-pub mod Loops
-pub mod TextPieces
-pub mod Eighths
-pub mod AtomLines
-pub mod JudgedText
-pub mod SpelledText
-pub mod Draws
+mod Loops
+mod TextPieces
+mod Eighths
+mod AtomLines
+mod JudgedText
+mod SpelledText
+mod Draws

@@ -1,15 +1,15 @@
 -- One more congruence, and the least place at which all hold.
 use Rattle.std.proofs.Common.{◌≡◌, sym, ap, subst, ◌∙◌, ℕ, ◌+◌, ◌*◌, ◌%◌, ◌<◌, ◌≤◌, ◌⊎◌, inl, inr, List, [], ◌∷◌, ◌++◌, Vec, Global, arith, eq-or-lt_of_le}
 use Rattle.std.specs.Prelude.{◌↔◌}
-use Rattle.crystal_spec.specs.Increasing.{IsMember}
+use Rattle.lists.specs.Increasing.{IsMember}
+use Rattle.lists.proofs.Members.{member_front, member_last, each_pushed}
 use Rattle.group_match.specs.declared.row.Row.{Row}
 use Rattle.group_match.specs.declared.row.Rows.{Rows}
 use Rattle.group_match.specs.Rows.{MeetsFirst, MeetsSecond, MeetsThird, AllMeet, Passes, IsOpen, NoneBelow, IsLeast, SomeBelow, IsLeastPlace}
-use Rattle.group_match.proofs.Walks.{old_pushed, new_pushed, each_pushed}
 
 -- all of a list and one more
 all_more : (P : Row → Type 0) (rs ts : List Row) (r : Row) → ts ≡ rs ++ r ∷ [] → AllMeet P ts → P r × AllMeet P rs
-all_more P rs ts r e h = (h r (subst (IsMember r) (sym e) (new_pushed rs r)), λ s m. h s (subst (IsMember s) (sym e) (old_pushed rs r s m)))
+all_more P rs ts r e h = (h r (subst (IsMember r) (sym e) (member_last rs r)), λ s m. h s (subst (IsMember s) (sym e) (member_front rs r s m)))
 
 more_all : (P : Row → Type 0) (rs ts : List Row) (r : Row) → ts ≡ rs ++ r ∷ [] → P r → AllMeet P rs → AllMeet P ts
 more_all P rs ts r e p h = subst (AllMeet P) (sym e) (each_pushed P rs r h p)

@@ -5,7 +5,7 @@ use Rattle.matrix3.specs.Matrices.{dot, minor, entries, matrix_of_variables}
 use Rattle.matrix3.specs.Matrices as formulas
 use Rattle.crystal_spec.specs.Matrices.{Matrix, image}
 use Rattle.crystal_spec.proofs.Identities.{by_integers}
-use Rattle.basis_spec.specs.Positions.{triple}
+use Rattle.positions.specs.Positions.{triple}
 use Rattle.group_match.specs.Candidates.{matrix_of_number}
 use Rattle.group_match.specs.Matching.{conjugate, HasSameRows, third_column}
 

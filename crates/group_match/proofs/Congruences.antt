@@ -8,7 +8,7 @@ use Rattle.numbers.proofs.ResidueRing.{residue-pos, residue-euclid}
 use Rattle.matrix3.specs.Matrices.{dot}
 use Rattle.crystal_spec.specs.Matrices.{Triple}
 use Rattle.crystal_spec.proofs.Identities.{by_integers}
-use Rattle.basis_spec.proofs.Residues.{euclid, remainder_within}
+use Rattle.positions.proofs.Residues.{euclid, remainder_within}
 use Rattle.basis_spec.proofs.PureTranslations.{same_number}
 use Rattle.basis_spec.proofs.Cancelling.{mul_cancel}
 use Rattle.group_match.specs.Rows.{IsMultiple, IsWholeAt, place}

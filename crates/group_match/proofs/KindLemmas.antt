@@ -3,17 +3,18 @@ use Rattle.std.proofs.Common.{◌≡◌, refl, sym, ap, ap₂, ◌∙◌, inl, i
 use Rattle.std.specs.Ordering.{int_eq}
 use Rattle.ring.specs.Size.{AtMost}
 use Rattle.ring.proofs.Sizes.{at_most_mul, at_most_add}
+use Rattle.lists.specs.Increasing.{IsMember}
+use Rattle.lists.proofs.Matching.{total}
+use Rattle.lists.proofs.Walks.{take_read}
 use Rattle.matrix3.specs.Matrices.{EachEntry}
-use Rattle.matrix3.proofs.FitsBySize.{determinant_size}
+use Rattle.matrix3.proofs.FitsBySize.{determinant_size, grown}
 use Rattle.crystal_spec.specs.declared.Sign.{Sign}
 use Rattle.crystal_spec.specs.Matrices.{Matrix, product, determinant}
-use Rattle.crystal_spec.specs.Increasing.{IsMember}
 use Rattle.crystal_spec.specs.Operations.{Operation, sign_factor}
 use Rattle.op_group.specs.Views.{operation_of}
 use Rattle.op_group.specs.declared.operation.Op.{Op}
 use Rattle.match_spec.specs.FirstMap.{IsStepMatrix, IsNone}
 use Rattle.match_spec.specs.Searching.{Class, class_of}
-use Rattle.match_spec.proofs.Sums.{total}
 use Rattle.match_spec.proofs.Counts.{weight, counts_agree}
 use Rattle.match_spec.proofs.Invariants.{same_det, same_trace}
 use Rattle.match_spec.proofs.Wholes.{not_zero}
@@ -23,8 +24,8 @@ use Rattle.group_match.specs.declared.inner.Source.{Source}
 use Rattle.group_match.specs.Sources.{op_of, IsInner}
 use Rattle.group_match.specs.Tasks.{IsTask, AreSourcesOf}
 use Rattle.group_match.specs.Kinds.{kind_of, kind_of_source, kind_of_member, number_of_kind, HasOtherNumber}
-use Rattle.group_match.proofs.Sized.{larger, natural_size}
-use Rattle.group_match.proofs.Walks.{one_more, mapped_pushed}
+use Rattle.group_match.proofs.Sized.{natural_size}
+use Rattle.std.proofs.lemmas.List.{map_push}
 
 -- ---- kinds
 
@@ -75,7 +76,7 @@ other_number h n ms s ss t sm so lack = record {
 
 pub one_kind_more : {X : Type 0} (f : X → ℤ) (xs : List X) (i : ℕ) (x : X) (ks js : List ℤ) (k : ℤ) → i < length xs → x ≡ get_or xs i x → js ≡ ks ++ k ∷ [] → k ≡ f x → ks ≡ map f (take i xs) → js ≡ map f (take (i + 1) xs)
 one_kind_more f xs i x ks js k below is e h g =
-    e ∙ (ap₂ (λ (w : List ℤ) (z : ℤ). w ++ z ∷ []) g h ∙ (sym (mapped_pushed f (take i xs) x) ∙ ap (map f) (sym (one_more xs i x below is))))
+    e ∙ (ap₂ (λ (w : List ℤ) (z : ℤ). w ++ z ∷ []) g h ∙ (sym (map_push f (take i xs) x) ∙ ap (map f) (sym (take_read xs i x below is))))
 
 -- ---- sizes of kinds
 
@@ -92,5 +93,5 @@ trace_size w h = at_most_mul (natural_size 9 9 (lit≤ tt)) (at_most_add (at_mos
 -- 3 times the determinant
 pub turn_size : (w : Matrix) → EachEntry (AtMost 2700000000) w → AtMost (3 * 10 ^ 30) (pos 3 *ℤ determinant w)
 turn_size w h =
-    let size : AtMost (10 ^ 30) (determinant w) = larger (lit≤ tt) (determinant_size w h) in
+    let size : AtMost (10 ^ 30) (determinant w) = grown (lit≤ tt) (determinant_size w h) in
     at_most_mul (natural_size 3 3 (lit≤ tt)) size

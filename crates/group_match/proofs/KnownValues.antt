@@ -2,7 +2,7 @@
 use Rattle.std.proofs.Common.{◌≡◌, refl, ℤ, pos, negsuc, [], ◌∷◌}
 use Rattle.crystal_spec.specs.declared.Sign.TheVariants.{Same, Reversed}
 use Rattle.crystal_spec.specs.Matrices.{Matrix, identity}
-use Rattle.basis_spec.specs.Positions.{triple}
+use Rattle.positions.specs.Positions.{triple}
 use Rattle.group_match.specs.Candidates.{matrix_of_number}
 use Rattle.group_match.specs.Kinds.{kind_of, number_of_kind}
 use Rattle.group_match.specs.Matching.{conjugate, third_column}

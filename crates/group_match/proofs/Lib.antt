@@ -1,19 +1,17 @@
-pub mod Walks
-pub mod Congruences
-pub mod Numbered
+mod Congruences
+mod Numbered
 pub mod Sized
 pub mod Outcomes
-pub mod Same
-pub mod InnerLemmas
-pub mod Adding
-pub mod Loops
-pub mod Unprimed
-pub mod Rests
-pub mod Sums
-pub mod Wholes
-pub mod Fractions
-pub mod Blocks
-pub mod PairGroups
-pub mod KindLemmas
+mod Same
+mod InnerLemmas
+mod Adding
+mod Loops
+mod Unprimed
+mod Rests
+mod Sums
+mod Wholes
+mod Fractions
+mod Blocks
+mod KindLemmas
 pub mod TaskLemmas
 mod KnownValues

@@ -8,7 +8,7 @@ use Rattle.matrix3.specs.Matrices as formulas
 use Rattle.crystal_spec.specs.Matrices.{Triple, Matrix, image, multiple, sum_of, difference}
 use Rattle.crystal_spec.proofs.Identities.{by_triples}
 use Rattle.crystal_spec.proofs.Entrywise.{triple_same}
-use Rattle.basis_spec.specs.Positions.{triple}
+use Rattle.positions.specs.Positions.{triple}
 use Rattle.match_spec.specs.Points.{IsWhole}
 use Rattle.match_spec.specs.Maps.{Pair}
 use Rattle.match_spec.specs.Searching.{gap_of, excess_at}

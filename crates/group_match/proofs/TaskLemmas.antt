@@ -3,18 +3,22 @@ use Rattle.std.proofs.Common.{◌≡◌, refl, sym, ap, subst, ◌∙◌, ◌⊎
 use Rattle.std.proofs.lemmas.Int.{ints}
 use Rattle.ring.specs.Size.{AtMost}
 use Rattle.numbers.specs.Fraction.{Fraction}
+use Rattle.lists.specs.Increasing.{IsMember, IsDistinct}
+use Rattle.lists.proofs.Members.{mapped_member, mapped_from}
+use Rattle.lists.proofs.Walks.{map_twice}
 use Rattle.matrix3.specs.declared.vector.Vec3.{Vec3}
 use Rattle.matrix3.specs.Matrices.{EachEntry, entries}
-use Rattle.matrix3.proofs.FitsBySize.{product_size, adjugate_size}
+use Rattle.matrix3.proofs.FitsBySize.{product_size, adjugate_size, entries_grown}
 use Rattle.crystal_spec.specs.Matrices.{Matrix, product, adjugate, determinant, identity}
-use Rattle.crystal_spec.specs.Increasing.{IsMember, IsDistinct}
+use Rattle.std.proofs.lemmas.List.{length-map}
 use Rattle.crystal_spec.specs.Operations.{Operation, IsWithinCell}
 use Rattle.basis_spec.specs.Metrics.{matrix_multiple}
 use Rattle.basis_spec.specs.StepBases.{IsSteps, InLattice}
 use Rattle.basis_spec.proofs.MatrixLaws.{product-adjugate}
 use Rattle.basis_spec.proofs.StepEntries.{fore_is_adjugate}
 use Rattle.op_group.specs.Groups.{IsGroupModulo}
-use Rattle.op_group.specs.Views.{operation_of, translation_of}
+use Rattle.op_group.specs.Views.{operation_of}
+use Rattle.positions.specs.Positions.{triple_of}
 use Rattle.op_group.specs.declared.operation.Op.{Op}
 use Rattle.mag_type.specs.MagneticTypes.{HasOnlyZeroTranslation}
 use Rattle.match_spec.specs.Points.{Point, IsPoint}
@@ -24,7 +28,7 @@ use Rattle.match_spec.specs.FirstMap.{IsBefore, IsEntry, IsClass, IsStepMatrix, 
 use Rattle.match_spec.specs.Searching.{AreRepresentatives, source_of, IsMatch, AreMatched, IsFirstOfMatrix, IsLaterOfMatrix, IsPart}
 use Rattle.match_spec.proofs.ListedGroups.{some_cells, group_of, IsStep, step_facts, index_small}
 use Rattle.match_spec.proofs.Conjugate.{conjugated}
-use Rattle.match_spec.proofs.Search.{mapped, unmapped, length_mapped, turn_nonzero, as_many, chosen_pairs, found_origin, no_origin, part_of, part_length, image_there, inner_there}
+use Rattle.match_spec.proofs.Search.{turn_nonzero, as_many, chosen_pairs, found_origin, no_origin, part_of, part_length, image_there, inner_there}
 use Rattle.match_spec.proofs.Origins.{some_pair}
 use Rattle.match_spec.proofs.Transport.{least_origin_equal}
 use Rattle.group_match.specs.declared.inner.Source.{Source}
@@ -36,7 +40,6 @@ use Rattle.group_match.specs.Candidates.{matrix_of_number}
 use Rattle.group_match.specs.Tasks.{IsTask, AreSourcesOf, HasEntriesAtMost, IsNoneBefore}
 use Rattle.group_match.proofs.Numbered.{number_of, number_below, matrix-number, entries_of_number, number_before}
 use Rattle.group_match.proofs.Blocks.{same_rows}
-use Rattle.group_match.proofs.Sized.{matrix_larger}
 
 -- ---- the class
 
@@ -72,8 +75,8 @@ step_pair h index back fore g k e eb ef =
       at_most = few;
       left = k.fore_is;
       right = ap (product back) (fore_is_adjugate index fore back st.above e k.fore_is) ∙ (product-adjugate back ∙ ap (λ (z : ℤ). matrix_multiple z identity) (sym e));
-      small = matrix_larger few eb;
-      fore_small = matrix_larger few ef;
+      small = entries_grown few eb;
+      fore_small = entries_grown few ef;
     }
   where
     positive : (i : ℕ) → pos 0 <ℤ pos i → 1 ≤ i
@@ -92,7 +95,7 @@ module _ (h : List Operation) (n : ℕ) (m : List Operation) (t : IsTask h n m) 
   representatives = so.representatives
 
   as_long : length rs ≡ length m
-  as_long = length_mapped (λ x. operation_of (op_of x)) ss ∙ many
+  as_long = length-map ss (λ x. operation_of (op_of x)) ∙ many
 
   enough : length m ≤ length rs
   enough = omega (arith, as_long)
@@ -101,11 +104,11 @@ module _ (h : List Operation) (n : ℕ) (m : List Operation) (t : IsTask h n m) 
   nonzero = turn_nonzero n m t.found_group t.primitive h t.symbol_group s st rs representatives t.once c ic
 
   source_of_list : (x : Source) → IsMember x ss → IsMember (operation_of x.op) h
-  source_of_list x hx = so.representatives.of_list (operation_of x.op) (mapped (λ y. operation_of (op_of y)) x ss hx)
+  source_of_list x hx = so.representatives.of_list (operation_of x.op) (mapped_member (λ y. operation_of (op_of y)) x ss hx)
 
   -- the entries of Q
   pub turn_size : EachEntry (AtMost 5184) (product c s)
-  turn_size = matrix_larger (lit≤ tt) (product_size c s (class_size c ic) st.small)
+  turn_size = entries_grown (lit≤ tt) (product_size c s (class_size c ic) st.small)
 
   -- without an image nothing carries
   pub no_image : HasNoImage c m ss → (p : Point) → IsPoint p → Carries (product c s) p h (pos n) m → ⊥
@@ -116,22 +119,18 @@ module _ (h : List Operation) (n : ℕ) (m : List Operation) (t : IsTask h n m) 
 
   module _ (xs : List Matched) (k : AreCarried c m ss xs) where
     pub matched : AreMatched (product c s) m rs (map pair_of xs)
-    matched = record { sources = same xs ∙ (ap (map operation_of) k.sources ∙ ops ss); each = each }
+    matched = record { sources = same xs ∙ (ap (map operation_of) k.sources ∙ sym (map_twice op_of operation_of ss)); each = each }
       where
         same : (ys : List Matched) → map source_of (map pair_of ys) ≡ map operation_of (map source_op ys)
         same [] = refl
         same (y ∷ ys) = ap (λ w. operation_of y.source ∷ w) (same ys)
 
-        ops : (ys : List Source) → map operation_of (map op_of ys) ≡ map (λ x. operation_of (op_of x)) ys
-        ops [] = refl
-        ops (y ∷ ys) = ap (λ w. operation_of y.op ∷ w) (ops ys)
-
         each : (p : Pair) → IsMember p (map pair_of xs) → IsMatch (product c s) m p
         each p hp =
-            let x = unmapped pair_of p xs hp in
-            let y = k.each x.0 x.1.0 in
+            let x = mapped_from pair_of p xs hp in
+            let y = k.each x.item x.of_list in
             let i = y.1.1 in
-            subst (IsMatch (product c s) m) (sym x.1.1) (record {
+            subst (IsMatch (product c s) m) (sym x.is) (record {
               member = i.member;
               matrix = ap (λ w. product w (product c s)) i.matrix ∙ (conjugated c y.0.inner s y.0.op.w ic.proper (so.inner y.0 y.1.0).turned ∙ ap (λ o. product (product c s) o.w) (sym i.source));
               sign = i.sign ∙ ap (λ o. o.sign) (sym i.source);
@@ -142,7 +141,7 @@ module _ (h : List Operation) (n : ℕ) (m : List Operation) (t : IsTask h n m) 
         let y = k.each x hx in
         let i = y.1.1 in
         record {
-          source = subst (λ o. IsWithinCell 12 (translation_of o.shift)) (sym i.source) (t.symbol_group.within_cell (operation_of y.0.op) (source_of_list y.0 y.1.0));
+          source = subst (λ o. IsWithinCell 12 (triple_of o.shift)) (sym i.source) (t.symbol_group.within_cell (operation_of y.0.op) (source_of_list y.0 y.1.0));
           member = t.found_group.within_cell (operation_of x.member) i.member;
           matrix = t.small (operation_of x.member) i.member;
         }
@@ -150,20 +149,20 @@ module _ (h : List Operation) (n : ℕ) (m : List Operation) (t : IsTask h n m) 
     module _ (ys : List Matched) (pt : IsPart (IsFirstOfMatrix m) (IsLaterOfMatrix m) (map pair_of xs) (map pair_of ys)) where
       pub chosen_sized : AreSized n ys
       chosen_sized y hy =
-          let p = part_of (IsFirstOfMatrix m) (IsLaterOfMatrix m) (map pair_of xs) (map pair_of ys) pt (pair_of y) (mapped pair_of y ys hy) in
-          let x = unmapped pair_of (pair_of y) xs p.0 in
-          let z = sized x.0 x.1.0 in
+          let p = part_of (IsFirstOfMatrix m) (IsLaterOfMatrix m) (map pair_of xs) (map pair_of ys) pt (pair_of y) (mapped_member pair_of y ys hy) in
+          let x = mapped_from pair_of (pair_of y) xs p.0 in
+          let z = sized x.item x.of_list in
           record {
-            source = subst (λ (q : Pair). IsWithinCell 12 q.source.translation) (sym x.1.1) z.source;
-            member = subst (λ (q : Pair). IsWithinCell n q.member.translation) (sym x.1.1) z.member;
-            matrix = subst (λ (q : Pair). EachEntry (AtMost 150000000) q.member.matrix) (sym x.1.1) z.matrix;
+            source = subst (λ (q : Pair). IsWithinCell 12 q.source.translation) (sym x.is) z.source;
+            member = subst (λ (q : Pair). IsWithinCell n q.member.translation) (sym x.is) z.member;
+            matrix = subst (λ (q : Pair). EachEntry (AtMost 150000000) q.member.matrix) (sym x.is) z.matrix;
           }
 
       pub chosen_few : length ys ≤ 96
       chosen_few =
           let le = part_length (IsFirstOfMatrix m) (IsLaterOfMatrix m) (map pair_of xs) (map pair_of ys) pt in
-          let lx : length xs ≡ length ss = sym (length_mapped source_op xs) ∙ (ap length k.sources ∙ length_mapped op_of ss) in
-          omega (arith, le, length_mapped pair_of xs, length_mapped pair_of ys, lx, many, t.few)
+          let lx : length xs ≡ length ss = sym (length-map xs source_op) ∙ (ap length k.sources ∙ length-map ss op_of) in
+          omega (arith, le, length-map xs pair_of, length-map ys pair_of, lx, many, t.few)
 
       -- the first of the balanced origins
       pub origin_found : (f : Vec3 Fraction) → HasPlace (product c s) (pos n) (map pair_of xs) (map pair_of ys) f → IsLeastOrigin s h (pos n) m c (point_of f)
@@ -177,7 +176,7 @@ module _ (h : List Operation) (n : ℕ) (m : List Operation) (t : IsTask h n m) 
       pub chosen_some : 1 ≤ length ys
       chosen_some =
           let ps = chosen_pairs n m t.found_group t.primitive h t.symbol_group s st rs representatives t.once c ic (map pair_of xs) matched enough (map pair_of ys) pt in
-          at_least (length ys) (subst (λ (l : ℕ). pos 0 <ℤ pos l) (length_mapped pair_of ys) (some_pair (pos n) m (map pair_of ys) (group_of n m t.found_group) ps.matrices))
+          at_least (length ys) (subst (λ (l : ℕ). pos 0 <ℤ pos l) (length-map ys pair_of) (some_pair (pos n) m (map pair_of ys) (group_of n m t.found_group) ps.matrices))
         where
           at_least : (l : ℕ) → pos 0 <ℤ pos l → 1 ≤ l
           at_least l h = omega (arith, ints, h)
@@ -233,7 +232,7 @@ not_as_many h n m s reps gh g pr d sm ar differ = record {
 
 -- adj(P) V P is small where V is
 inner_size : (c v : Matrix) → EachEntry (AtMost 1) c → EachEntry (AtMost 150000000) v → EachEntry (AtMost 2700000000) (product (adjugate c) (product v c))
-inner_size c v a b = matrix_larger (lit≤ tt) (product_size (adjugate c) (product v c) (adjugate_size c a) (product_size v c b a))
+inner_size c v a b = entries_grown (lit≤ tt) (product_size (adjugate c) (product v c) (adjugate_size c a) (product_size v c b a))
 
 -- where an operation has no small matrix in the triangular basis nothing carries
 pub no_inner : (h : List Operation) (n : ℕ) (m : List Operation) (s : Matrix) (rs : List Operation) → HasEntriesAtMost 150000000 m → AreRepresentatives h rs → HasNoInner s rs → IsNone s h (pos n) m
@@ -243,11 +242,7 @@ no_inner h n m s reps small ar lack = record {
 
 -- the sources are representatives
 pub sources_of : (h : List Operation) (s : Matrix) (ops : List Op) (ss : List Source) → AreRepresentatives h (map operation_of ops) → AreSources s ops ss → AreSourcesOf h s ss
-sources_of h s ops ss ar so = record { representatives = subst (AreRepresentatives h) (ap (map operation_of) (sym so.ops_are) ∙ same ss) ar; inner = so.inner }
-  where
-    same : (ys : List Source) → map operation_of (map op_of ys) ≡ map (λ x. operation_of (op_of x)) ys
-    same [] = refl
-    same (y ∷ ys) = ap (λ w. operation_of y.op ∷ w) (same ys)
+sources_of h s ops ss ar so = record { representatives = subst (AreRepresentatives h) (ap (map operation_of) (sym so.ops_are) ∙ sym (map_twice op_of operation_of ss)) ar; inner = so.inner }
 
 -- ---- the same in other terms
 

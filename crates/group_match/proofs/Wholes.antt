@@ -8,13 +8,15 @@ use Rattle.ring.specs.Size.{AtMost}
 use Rattle.ring.proofs.IntOrder.{mul_pos}
 use Rattle.numbers.specs.Fraction.{Fraction, lowest}
 use Rattle.numbers.proofs.FractionLemmas.{Parts, lowest_parts, lowest_is}
+use Rattle.lists.proofs.Members.{member_front, member_last, each_pushed}
+use Rattle.lists.proofs.Walks.{take_read}
 use Rattle.matrix3.specs.declared.vector.Vec3.{Vec3}
 use Rattle.matrix3.specs.Matrices.{EachCoordinate, coordinates}
 use Rattle.crystal_spec.specs.Matrices.{Triple, Matrix, difference}
 use Rattle.crystal_spec.proofs.Identities.{by_integers}
 use Rattle.crystal_spec.proofs.Entrywise.{triple_same}
-use Rattle.basis_spec.specs.Positions.{triple}
-use Rattle.basis_spec.proofs.Residues.{euclid, remainder_within}
+use Rattle.positions.specs.Positions.{triple}
+use Rattle.positions.proofs.Residues.{euclid, remainder_within}
 use Rattle.match_spec.specs.Points.{point, IsWhole, Equal}
 use Rattle.match_spec.specs.Fractions.{point_of}
 use Rattle.match_spec.specs.Maps.{Pair}
@@ -27,14 +29,14 @@ use Rattle.group_match.specs.declared.row.Rows.{Rows}
 use Rattle.group_match.specs.Matching.{pair_of}
 use Rattle.group_match.specs.Rows.{Passes, place, NoneBelow, SomeBelow, IsLeastPlace}
 use Rattle.group_match.specs.Origins.{IsStart, HasPlace, HasNoPlace}
-use Rattle.group_match.proofs.Walks.{one_more, mapped_pushed, each_pushed, old_pushed, new_pushed}
+use Rattle.std.proofs.lemmas.List.{map_push}
 
 -- one pair more
 pub more_pairs : {A B : Type 0} (q : Matrix) (n : ℤ) (r : Triple) (k : ℤ) (xs : List Matched) (i : ℕ) (x : Matched) (z : Triple) → i < length xs → x ≡ get_or xs i x → A ↔ (IsWhole (k *ℤ (n *ℤ pos 12)) (excess_at q n r k z (pair_of x)) × B) → B ↔ AllWhole q n r k (map pair_of (take i xs)) z → A ↔ AllWhole q n r k (map pair_of (take (i + 1) xs)) z
 more_pairs {A} {B} q n r k xs i x z below is step before =
-    subst (λ cs. A ↔ AllWhole q n r k cs z) (sym (ap (map pair_of) (one_more xs i x below is) ∙ mapped_pushed pair_of (take i xs) x)) (
+    subst (λ cs. A ↔ AllWhole q n r k cs z) (sym (ap (map pair_of) (take_read xs i x below is) ∙ map_push pair_of (take i xs) x)) (
       (λ a. (let s = step.0 a in each_pushed (λ c. IsWhole (k *ℤ (n *ℤ pos 12)) (excess_at q n r k z c)) (map pair_of (take i xs)) (pair_of x) (before.0 s.1) s.0)),
-      (λ w. step.1 (w (pair_of x) (new_pushed (map pair_of (take i xs)) (pair_of x)), before.1 (λ c m. w c (old_pushed (map pair_of (take i xs)) (pair_of x) c m)))),
+      (λ w. step.1 (w (pair_of x) (member_last (map pair_of (take i xs)) (pair_of x)), before.1 (λ c m. w c (member_front (map pair_of (take i xs)) (pair_of x) c m)))),
     )
 
 -- the rows say at which places the excess of each pair is whole

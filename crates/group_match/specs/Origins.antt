@@ -7,12 +7,12 @@
 use Rattle.std.specs.Prelude.{ℕ, List, length, ℤ, pos, ◌*ℤ◌}
 use Rattle.ring.specs.Size.{AtMost}
 use Rattle.numbers.specs.Fraction.{Fraction}
+use Rattle.lists.specs.Increasing.{IsMember}
 use Rattle.matrix3.specs.declared.vector.Vec3.{Vec3}
 use Rattle.matrix3.specs.Matrices.{EachEntry, coordinates}
 use Rattle.crystal_spec.specs.Matrices.{Triple, Matrix, difference}
-use Rattle.crystal_spec.specs.Increasing.{IsMember}
 use Rattle.crystal_spec.specs.Operations.{IsWithinCell}
-use Rattle.op_group.specs.Views.{translation_of}
+use Rattle.positions.specs.Positions.{triple_of}
 use Rattle.match_spec.specs.Points.{point, IsPoint, IsInCell, IsWhole, Equal}
 use Rattle.match_spec.specs.Fractions.{point_of}
 use Rattle.match_spec.specs.Maps.{Pair}
@@ -23,8 +23,8 @@ use Rattle.group_match.specs.declared.pair.Matched.{Matched}
 
 -- translation parts within the cell, and small entries
 pub record IsSized (n : ℕ) (x : Matched) : Type 0 where
-  pub source : IsWithinCell 12 (translation_of x.source.shift)
-  pub member : IsWithinCell n (translation_of x.member.shift)
+  pub source : IsWithinCell 12 (triple_of x.source.shift)
+  pub member : IsWithinCell n (triple_of x.member.shift)
   pub matrix : EachEntry (AtMost 150000000) x.member.w
 
 -- those of each of the list

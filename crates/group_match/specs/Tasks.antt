@@ -5,9 +5,9 @@
 --   AreSourcesOf h s xs       xs are representatives of h, each with its matrix in the triangular basis
 use Rattle.std.specs.Prelude.{ℕ, pos, ◌<◌, ◌≤◌, ◌^◌, List, map, length}
 use Rattle.ring.specs.Size.{AtMost}
+use Rattle.lists.specs.Increasing.{IsMember, IsDistinct}
 use Rattle.matrix3.specs.Matrices.{EachEntry}
 use Rattle.crystal_spec.specs.Matrices.{Matrix, product}
-use Rattle.crystal_spec.specs.Increasing.{IsMember, IsDistinct}
 use Rattle.crystal_spec.specs.Operations.{Operation}
 use Rattle.op_group.specs.Groups.{IsGroupModulo}
 use Rattle.op_group.specs.Views.{operation_of}

@@ -3,15 +3,14 @@
 ghost use Rattle.std.specs.Prelude.{◌≡◌, ◌^◌, ℕ, map, IfOk};
 ghost use Rattle.std.specs.Bool.{OnTrue, OnFalse};
 ghost use Rattle.ring.specs.Size.{AtMost};
+ghost use Rattle.lists.specs.Increasing.{IsMember};
 ghost use Rattle.matrix3.specs.Matrices.{EachEntry};
-ghost use Rattle.crystal_spec.specs.Increasing.{IsMember};
 ghost use Rattle.crystal_spec.specs.Operations.{Operation, sign_factor};
 ghost use Rattle.op_group.specs.Views.{operation_of};
 ghost use Rattle.group_match.specs.declared.inner.Source.{Source};
 ghost use Rattle.group_match.specs.Kinds.{kind_of, kind_of_source, kind_of_member, number_of_kind, HasOtherNumber};
 
 use crate::inner::Source;
-use crate::vector::whole;
 use crystal_spec::Sign;
 use exact_num::Int;
 use matrix3::Mat3;
@@ -36,7 +35,7 @@ fn kind(w: &Mat3<Int>, sign: Sign) -> Int
     ensures { result ≡ kind_of w.now sign }
 {
     let trace = w.a11 + w.a22 + w.a33;
-    let turn = whole(9) * trace + whole(3) * w.handed();
+    let turn = Int::from(9u32) * trace + Int::from(3u32) * w.handed();
     turn + factor(sign)
 }
 

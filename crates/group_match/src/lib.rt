@@ -19,11 +19,7 @@ mod place;
 mod representative;
 mod row;
 mod search;
-mod vector;
 
 pub use map::Map;
 pub use maps::Maps;
 pub use search::match_row;
-
-#[cfg(test)]
-mod tests;

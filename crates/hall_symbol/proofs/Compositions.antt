@@ -15,8 +15,9 @@ use Rattle.crystal_spec.specs.Crystals.{position_after}
 use Rattle.crystal_spec.specs.Operations.{Operation, IsWithinCell, sign_factor}
 use Rattle.crystal_spec.proofs.Entrywise.{triple_same}
 use Rattle.crystal_spec.proofs.Identities.{by_triples, by_integers}
-use Rattle.op_group.specs.Composition.{ReducesTo, identity_operation, IsComposed}
-use Rattle.op_group.proofs.Reducing.{reduces, reduces_once}
+use Rattle.op_group.specs.Composition.{identity_operation, IsComposed}
+use Rattle.positions.specs.Positions.{IsModulo}
+use Rattle.positions.proofs.Residues.{modulo_once, is_residues}
 use Rattle.op_group.proofs.Composing.{composed_once, composed_associates, identity_first, identity_next}
 use Rattle.hall_symbol.specs.Compositions.{both, reduced, then}
 
@@ -50,8 +51,8 @@ both_assoc Reversed Reversed Reversed = refl
 
 -- ---- residues
 
-pub reduces_12 : (p : Triple) → ReducesTo 12 p (reduced p)
-reduces_12 p = reduces 12 p (omega arith)
+pub reduces_12 : (p : Triple) → IsModulo 12 p (reduced p)
+reduces_12 p = is_residues 12 p (omega arith)
 
 pub reduced_within : (p : Triple) → IsWithinCell 12 (reduced p)
 reduced_within p = (reduces_12 p).within
@@ -68,7 +69,7 @@ reduced_same p q k e = triple_same
 
 -- a column within the cell is its own residue
 pub reduced_is : (p : Triple) → IsWithinCell 12 p → reduced p ≡ p
-reduced_is p w = reduces_once 12 p (reduced p) p (reduces_12 p) (record {
+reduced_is p w = modulo_once 12 p (reduced p) p (reduces_12 p) (record {
   within = w;
   cells = record { x = pos 0; y = pos 0; z = pos 0 };
   same = by_triples (coordinates p) (vector_of_variables 0) (formulas.sum_of quoted (vector_of_variables 0) (formulas.multiple quoted (con (pos 12)) (record { x = con (pos 0); y = con (pos 0); z = con (pos 0) }))) refl;

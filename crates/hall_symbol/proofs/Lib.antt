@@ -1,7 +1,6 @@
-pub mod CutLemmas
-pub mod TokenLemmas
+mod CutLemmas
+mod TokenLemmas
 pub mod Compositions
 pub mod RotationMatrices
-pub mod Shifting
-pub mod Listed
+mod Shifting
 mod KnownValues

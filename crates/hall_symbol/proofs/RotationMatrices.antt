@@ -1,18 +1,18 @@
 -- The matrices of a symbol's operations: their entries are -1, 0 and 1, and their 12th powers are I.
 --   named_rotational     those that a symbol names
 --   generator_rotational those about the shifted origin, whose translation parts are within one cell (generator_within)
-use Rattle.std.proofs.Common.{◌≡◌, ℕ, zero, suc, Bool, true, false, List, [], ◌∷◌, ◌++◌, ◌⊎◌, inl, inr, map, T, refl, sym, subst}
+use Rattle.std.proofs.Common.{◌≡◌, ℕ, zero, suc, Bool, true, false, ◌++◌, ◌⊎◌, inl, inr, map, T, refl, sym, subst}
 use Rattle.std.specs.Prelude.{ℤ, pos, negsuc, unsigned_abs}
 use Rattle.std.proofs.Math.Dec.{leb}
 use Rattle.std.proofs.Math.Facts.{leb_yes}
 use Rattle.ring.specs.Size.{AtMost}
 use Rattle.ring.proofs.Sizes.{at_most_mul}
+use Rattle.lists.specs.Increasing.{IsMember}
+use Rattle.lists.proofs.Members.{mapped_from, member_either}
 use Rattle.matrix3.specs.Matrices.{EachEntry, vector_map}
-use Rattle.crystal_spec.specs.Increasing.{IsMember}
 use Rattle.crystal_spec.specs.Matrices.{Matrix, identity, product}
 use Rattle.crystal_spec.specs.Operations.{Operation, IsWithinCell}
 use Rattle.basis_spec.specs.Translations.{pure_translation}
-use Rattle.basis_spec.proofs.FirstAtoms.{mapped_from}
 use Rattle.hall_symbol.specs.declared.symbol.Axis.TheVariants.{X, Y, Z}
 use Rattle.hall_symbol.specs.declared.symbol.Rotation.{Rotation}
 use Rattle.hall_symbol.specs.declared.symbol.Rotation.TheVariants.{Identity, Twofold, Threefold, Fourfold, Sixfold, TwofoldDifference, TwofoldSum, ThreefoldDiagonal}
@@ -129,17 +129,8 @@ token_rotational t = by t.is_negated t.rotation
     by true r = record { small = negated_small (matrix_of r) (rotation_small r); power = negated_power r }
     by false r = record { small = rotation_small r; power = rotation_power r }
 
-member_of_sum : {X : Type 0} (z : X) (xs ys : List X) → IsMember z (xs ++ ys) → IsMember z xs ⊎ IsMember z ys
-member_of_sum z [] ys m = inr m
-member_of_sum z (x ∷ xs) ys (inl e) = inl (inl e)
-member_of_sum z (x ∷ xs) ys (inr m) = by (member_of_sum z xs ys m)
-  where
-    by : IsMember z xs ⊎ IsMember z ys → IsMember z (x ∷ xs) ⊎ IsMember z ys
-    by (inl k) = inl (inr k)
-    by (inr k) = inr k
-
 pub named_rotational : (s : HallSymbol) (o : Operation) → IsMember o (named_operations s) → IsRotational o.matrix
-named_rotational s o m = by (member_of_sum o (inversions s.is_inverted ++ map pure_translation (centrings s.lattice)) (map operation_of_token s.tokens) m)
+named_rotational s o m = by (member_either o (inversions s.is_inverted ++ map pure_translation (centrings s.lattice)) (map operation_of_token s.tokens) m)
   where
     inverted : (b : Bool) → IsMember o (inversions b) → IsRotational o.matrix
     inverted true (inl e) = subst (λ (p : Operation). IsRotational p.matrix) (sym e) inversion_rotational
@@ -151,7 +142,7 @@ named_rotational s o m = by (member_of_sum o (inversions s.is_inverted ++ map pu
     front (inr k) = let r = mapped_from pure_translation o (centrings s.lattice) k in subst (λ (p : Operation). IsRotational p.matrix) (sym r.is) identity_rotational
 
     by : IsMember o (inversions s.is_inverted ++ map pure_translation (centrings s.lattice)) ⊎ IsMember o (map operation_of_token s.tokens) → IsRotational o.matrix
-    by (inl k) = front (member_of_sum o (inversions s.is_inverted) (map pure_translation (centrings s.lattice)) k)
+    by (inl k) = front (member_either o (inversions s.is_inverted) (map pure_translation (centrings s.lattice)) k)
     by (inr k) = let r = mapped_from operation_of_token o s.tokens k in subst (λ (p : Operation). IsRotational p.matrix) (sym r.is) (token_rotational r.item)
 
 pub named_small : (s : HallSymbol) → AreSmall (named_operations s)

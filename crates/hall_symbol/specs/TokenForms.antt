@@ -14,6 +14,7 @@ use Rattle.std.specs.Prelude.{ℕ, Bool, true, false, not, ◌==◌, ◌||◌, �
 use Rattle.std.specs.List.{list_all}
 use Rattle.std.specs.declared.option.Option.{Option}
 use Rattle.std.specs.declared.option.Option.TheVariants.{Some, None}
+use Rattle.plain_text.specs.Text.{without_last}
 use Rattle.crystal_spec.specs.declared.Sign.{Sign}
 use Rattle.crystal_spec.specs.declared.Sign.TheVariants.{Same, Reversed}
 use Rattle.hall_symbol.specs.declared.symbol.Axis.TheVariants.{X, Y, Z}
@@ -93,9 +94,7 @@ ends_primed (b ∷ c ∷ w) = ends_primed (c ∷ w)
 
 -- one `!` at the end is dropped
 abbrev pub without_prime : List ℕ → List ℕ
-without_prime [] = []
-without_prime (b ∷ []) = if b == 33 then [] else b ∷ []
-without_prime (b ∷ c ∷ w) = b ∷ without_prime (c ∷ w)
+without_prime w = without_last 33 w
 
 abbrev pub letters_in : List ℕ → List ℕ
 letters_in w = without_prime (behind_axis w)

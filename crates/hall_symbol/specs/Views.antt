@@ -5,9 +5,9 @@
 --   AreSmall os         the matrix entries of these operations are -1, 0 and 1
 use Rattle.std.specs.Prelude.{ℕ, List, [], ◌∷◌, ◌++◌}
 use Rattle.ring.specs.Size.{AtMost}
+use Rattle.lists.specs.Increasing.{IsMember}
 use Rattle.matrix3.specs.Matrices.{EachEntry}
 use Rattle.matrix3.specs.declared.vector.Vec3.{Vec3}
-use Rattle.crystal_spec.specs.Increasing.{IsMember}
 use Rattle.crystal_spec.specs.Operations.{Operation}
 use Rattle.hall_symbol.specs.declared.symbol.Token.{Token}
 use Rattle.hall_symbol.specs.Symbols.{HallSymbol}

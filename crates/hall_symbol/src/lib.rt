@@ -19,8 +19,6 @@ mod read;
 mod rotation;
 mod shift;
 mod symbol;
-#[cfg(test)]
-mod tests;
 pub mod text;
 pub mod texts;
 mod token;
@@ -28,6 +26,6 @@ mod token_form;
 mod translation;
 
 pub use fault::{FaultText, HallFault};
-pub use operations::{generators, identity};
+pub use operations::generators;
 pub use read::read_symbol;
 pub use symbol::Symbol;

@@ -4,7 +4,8 @@ ghost use Rattle.ring.specs.Size.{AtMost};
 ghost use Rattle.matrix3.specs.Matrices.{EachEntry, vector_map};
 ghost use Rattle.crystal_spec.specs.Matrices.{identity as identity_matrix};
 ghost use Rattle.basis_spec.specs.Translations.{pure_translation};
-ghost use Rattle.op_group.specs.Views.{operation_of, translation_of};
+ghost use Rattle.op_group.specs.Views.{operation_of};
+ghost use Rattle.positions.specs.Positions.{triple_of};
 ghost use Rattle.hall_symbol.specs.Symbols.{AreTwelfths, matrix_of, negated, centrings, inversion, inversions, operation_of_token, shifted, named_operations, generators};
 ghost use Rattle.hall_symbol.specs.Views.{AreSmall};
 
@@ -47,13 +48,6 @@ fn rows(
         a32: whole(a32),
         a33: whole(a33),
     }
-}
-
-/// The identity matrix I.
-pub fn identity() -> Mat3<Int>
-    ensures { result ≡ identity_matrix }
-{
-    rows(1, 0, 0, 0, 1, 0, 0, 0, 1)
 }
 
 /// The matrix of a proper rotation.
@@ -112,10 +106,10 @@ fn negated(w: Mat3<Int>) -> Mat3<Int>
 
 /// The operation (I, t, +1).
 fn translation(shift: [u32; 3]) -> Op
-    ensures { operation_of result ≡ pure_translation (translation_of shift) }
+    ensures { operation_of result ≡ pure_translation (triple_of shift) }
 {
     Op {
-        w: identity(),
+        w: Mat3::identity(),
         shift,
         sign: Sign::Same,
     }

@@ -8,14 +8,15 @@ use Rattle.std.proofs.Common.{◌≡◌, ◌⊎◌, inl, inr, ℕ, suc, ◌<◌,
 use Rattle.std.proofs.Math.Nat.{pow-suc, pow-le-pow_right}
 use Rattle.ring.specs.Ring.{int_ops}
 use Rattle.ring.specs.Size.{AtMost}
+use Rattle.lists.specs.Increasing.{IsMember, IsDistinct}
+use Rattle.lists.proofs.Counting.{length_le}
+use Rattle.lists.proofs.Members.{mapped_from, mapped_member, member_front, member_last, pushed_member}
+use Rattle.lists.proofs.Distinct.{IsDistinct-pushed}
 use Rattle.matrix3.specs.Matrices.{EachEntry}
 use Rattle.matrix3.specs.Fits.{ProductFits}
 use Rattle.matrix3.proofs.FitsBySize.{product_size, product_fits}
-use Rattle.crystal_spec.specs.Increasing.{IsMember, IsDistinct}
 use Rattle.crystal_spec.specs.Matrices.{Matrix, product}
 use Rattle.crystal_spec.specs.Operations.{Operation}
-use Rattle.basis_spec.proofs.Counting.{length_le}
-use Rattle.basis_spec.proofs.FirstAtoms.{mapped_from, mapped_member}
 use Rattle.op_group.specs.Composition.{identity_operation, IsComposed}
 use Rattle.hall_symbol.specs.Compositions.{then}
 use Rattle.hall_text.specs.Products.{product_of, AreAmong, IsProduct, AreProducts, matrices_of, TooMany}
@@ -25,7 +26,8 @@ use Rattle.hall_symbol.proofs.Compositions.{then_composed, composed_then, then_a
 use Rattle.hall_text.proofs.ProductLemmas.{product_of_within, product_then, identity_product, generator_product}
 use Rattle.hall_symbol.proofs.RotationMatrices.{identity_small}
 use Rattle.hall_text.proofs.Splitting.{one-product}
-use Rattle.hall_text.proofs.Listed.{member_left, member_last, member_more, map_push, length_push, length_map, distinct_push, starts_refl, starts_push, starts_member, taken_next}
+use Rattle.hall_text.proofs.Listed.{starts_refl, starts_push, starts_member, taken_next}
+use Rattle.std.proofs.lemmas.List.{map_push, length_push, length-map}
 
 -- ---- sizes
 
@@ -60,14 +62,14 @@ no_matrix : (os : List Operation) (w : Matrix) → ((s : Operation) → IsMember
 no_matrix os w none m = let r = mapped_from (λ (o : Operation). o.matrix) w os m in none r.item r.of_list r.is
 
 products_push : (gens os : List Operation) (o : Operation) → AreProducts gens os → IsProduct gens o → AreProducts gens (os ++ (o ∷ []))
-products_push gens os o p k = record { each = λ q m. by q (member_more os o q m) }
+products_push gens os o p k = record { each = λ q m. by q (pushed_member os o q m) }
   where
-    by : (q : Operation) → IsMember q os ⊎ (q ≡ o) → IsProduct gens q
-    by q (inl m) = p.each q m
-    by q (inr e) = subst (IsProduct gens) (sym e) k
+    by : (q : Operation) → (q ≡ o) ⊎ IsMember q os → IsProduct gens q
+    by q (inr m) = p.each q m
+    by q (inl e) = subst (IsProduct gens) (sym e) k
 
 distinct_more : (os : List Operation) (o : Operation) → IsDistinct (matrices_of os) → ((s : Operation) → IsMember s os → o.matrix ≡ s.matrix → ⊥) → IsDistinct (matrices_of (os ++ (o ∷ [])))
-distinct_more os o d none = subst IsDistinct (sym (map_push (λ (q : Operation). q.matrix) os o)) (distinct_push (matrices_of os) o.matrix d (no_matrix os o.matrix none))
+distinct_more os o d none = subst IsDistinct (sym (map_push (λ (q : Operation). q.matrix) os o)) (IsDistinct-pushed (matrices_of os) o.matrix d (no_matrix os o.matrix none))
 
 pub pushed : (gens os : List Operation) (o : Operation) → length os < 48 → ArePartial gens os → IsNext gens os o → ((s : Operation) → IsMember s os → o.matrix ≡ s.matrix → ⊥) → IsAdded gens os (os ++ (o ∷ [])) o
 pushed gens os o l p n none =
@@ -77,16 +79,16 @@ pushed gens os o l p n none =
         products = products_push gens os o p.products n.product;
         distinct = distinct_more os o p.distinct none;
         few = omega (arith, l, longer);
-        one = member_left os o identity_operation p.one;
-        sized = λ q m. subst (λ (k : ℕ). EachEntry (AtMost (3 ^ k)) q.matrix) (sym (longer ∙ add-one (length os))) (by q (member_more os o q m));
+        one = member_front os o identity_operation p.one;
+        sized = λ q m. subst (λ (k : ℕ). EachEntry (AtMost (3 ^ k)) q.matrix) (sym (longer ∙ add-one (length os))) (by q (pushed_member os o q m));
       };
       starts = starts_push os os o (starts_refl os);
       found = record { op = o; member = member_last os o; matrix = refl };
     }
   where
-    by : (q : Operation) → IsMember q os ⊎ (q ≡ o) → EachEntry (AtMost (3 ^ suc (length os))) q.matrix
-    by q (inl m) = raised q.matrix (powers_up (length os) (suc (length os)) (omega arith)) (p.sized q m)
-    by q (inr e) = subst (λ (k : Operation). EachEntry (AtMost (3 ^ suc (length os))) k.matrix) (sym e) n.sized
+    by : (q : Operation) → (q ≡ o) ⊎ IsMember q os → EachEntry (AtMost (3 ^ suc (length os))) q.matrix
+    by q (inr m) = raised q.matrix (powers_up (length os) (suc (length os)) (omega arith)) (p.sized q m)
+    by q (inl e) = subst (λ (k : Operation). EachEntry (AtMost (3 ^ suc (length os))) k.matrix) (sym e) n.sized
 
 pub too_many : (gens os : List Operation) (o : Operation) → length os ≡ 48 → ArePartial gens os → IsNext gens os o → ((s : Operation) → IsMember s os → o.matrix ≡ s.matrix → ⊥) → TooMany gens
 too_many gens os o l p n none = record {
@@ -102,9 +104,9 @@ pub has_more : (os new : List Operation) (w : Matrix) → Starts os new → HasM
 has_more os new w s h = record { op = h.op; member = starts_member os new s h.op h.member; matrix = h.matrix }
 
 -- one more of gens
-pub meets_next : (seen old new : List Operation) (r x : Operation) → Starts old new → Meets old r seen → HasMatrix new (then r x).matrix → (y : Operation) → IsMember y seen ⊎ (y ≡ x) → HasMatrix new (then r y).matrix
-meets_next seen old new r x s m h y (inl k) = has_more old new (then r y).matrix s (m y k)
-meets_next seen old new r x s m h y (inr e) = subst (λ (z : Operation). HasMatrix new (then r z).matrix) (sym e) h
+pub meets_next : (seen old new : List Operation) (r x : Operation) → Starts old new → Meets old r seen → HasMatrix new (then r x).matrix → (y : Operation) → (y ≡ x) ⊎ IsMember y seen → HasMatrix new (then r y).matrix
+meets_next seen old new r x s m h y (inr k) = has_more old new (then r y).matrix s (m y k)
+meets_next seen old new r x s m h y (inl e) = subst (λ (z : Operation). HasMatrix new (then r z).matrix) (sym e) h
 
 -- ---- the operations of the list
 
@@ -128,9 +130,9 @@ partial_start gens = record {
 pub closed_next : (gens old new : List Operation) (i : ℕ) (r : Operation) → i < length old → r ≡ get_or old i r → HasGrown gens r old new → ((o : Operation) → IsMember o (take i old) → Meets old o gens) → (o : Operation) → IsMember o (take (i + 1) new) → Meets new o gens
 closed_next gens old new i r l e g c o m = by (taken_next old new i r o g.starts l e m)
   where
-    by : IsMember o (take i old) ⊎ (o ≡ r) → Meets new o gens
-    by (inl k) = λ x h. has_more old new (then o x).matrix g.starts (c o k x h)
-    by (inr q) = subst (λ (p : Operation). Meets new p gens) (sym q) g.meets
+    by : (o ≡ r) ⊎ IsMember o (take i old) → Meets new o gens
+    by (inr k) = λ x h. has_more old new (then o x).matrix g.starts (c o k x h)
+    by (inl q) = subst (λ (p : Operation). Meets new p gens) (sym q) g.meets
 
 pub stand_for : (gens os : List Operation) (i : ℕ) → length os ≤ i → ArePartial gens os → ((o : Operation) → IsMember o (take i os) → Meets os o gens) → StandForMatrices gens os
 stand_for gens os i l p c = record {
@@ -160,7 +162,7 @@ module _ (gens os : List Operation) (c : StandForMatrices gens os) where
   pub not_too_many : TooMany gens → ⊥
   not_too_many t =
       let le : length (matrices_of t.products) ≤ length (matrices_of os) = length_le (matrices_of t.products) (matrices_of os) t.distinct there in
-      absurd (omega (arith, le, length_map (λ (o : Operation). o.matrix) t.products, length_map (λ (o : Operation). o.matrix) os, t.count, c.partial.few))
+      absurd (omega (arith, le, length-map t.products (λ (o : Operation). o.matrix), length-map os (λ (o : Operation). o.matrix), t.count, c.partial.few))
     where
       there : (w : Matrix) → IsMember w (matrices_of t.products) → IsMember w (matrices_of os)
       there w m =

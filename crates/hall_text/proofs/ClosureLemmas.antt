@@ -8,15 +8,16 @@
 use Rattle.std.proofs.Common.{◌≡◌, ◌⊎◌, inl, inr, ℕ, ◌<◌, ◌≤◌, ◌+◌, List, [], ◌∷◌, ◌++◌, length, get_or, take, refl, sym, ◌∙◌, ap, subst, arith, take_all}
 use Rattle.std.specs.Prelude.{pos}
 use Rattle.ring.specs.Ring.{quoted}
+use Rattle.lists.specs.Increasing.{IsMember}
+use Rattle.lists.proofs.Members.{member_last, pushed_member}
 use Rattle.matrix3.specs.Matrices.{coordinates, vector_of_variables}
 use Rattle.matrix3.specs.Matrices as formulas
 use Rattle.crystal_spec.specs.declared.Sign.{Sign}
 use Rattle.crystal_spec.specs.declared.Sign.TheVariants.{Same}
-use Rattle.crystal_spec.specs.Increasing.{IsMember}
 use Rattle.crystal_spec.specs.Matrices.{Triple, difference, sum_of, multiple}
 use Rattle.crystal_spec.proofs.Identities.{by_triples}
 use Rattle.crystal_spec.specs.Operations.{Operation, IsWithinCell}
-use Rattle.basis_spec.specs.Positions.{origin}
+use Rattle.positions.specs.Positions.{origin}
 use Rattle.op_group.specs.Composition.{IsComposed}
 use Rattle.hall_symbol.specs.Compositions.{both, reduced, then}
 use Rattle.hall_text.specs.Products.{IsProduct, AreProducts}
@@ -25,7 +26,7 @@ use Rattle.hall_text.specs.PureTables.{Has, PureTable, IsPureTable, IsEmptyTable
 use Rattle.hall_symbol.proofs.Compositions.{reduced_same, reduces_12, composed_then}
 use Rattle.hall_text.proofs.ProductLemmas.{product_then, generator_product}
 use Rattle.hall_text.proofs.Splitting.{difference_product}
-use Rattle.hall_text.proofs.Listed.{member_last, member_more, starts_refl, starts_push, starts_both, starts_member, starts_longer, taken_next}
+use Rattle.hall_text.proofs.Listed.{starts_refl, starts_push, starts_both, starts_member, starts_longer, taken_next}
 
 -- ---- growth
 
@@ -45,14 +46,14 @@ pub carried_kept : (t u : PureTable) (o : Operation) (xs : List Operation) → I
 carried_kept t u o xs m h x k = m.keeps (carried_by o x).translation (carried_by o x).sign (h x k)
 
 -- one more of the steps
-pub sums_next : (t u : PureTable) (o d p : Operation) (seen : List Operation) → p ≡ sum_with o d → IsPut t u p → HasSums t o seen → (e : Operation) → IsMember e seen ⊎ (e ≡ d) → Has u.flags (sum_with o e).translation (sum_with o e).sign
-sums_next t u o d p seen q put h e (inl k) = put.keeps (sum_with o e).translation (sum_with o e).sign (h e k)
-sums_next t u o d p seen q put h e (inr f) = subst (λ (r : Operation). Has u.flags r.translation r.sign) (q ∙ ap (sum_with o) (sym f)) put.flagged
+pub sums_next : (t u : PureTable) (o d p : Operation) (seen : List Operation) → p ≡ sum_with o d → IsPut t u p → HasSums t o seen → (e : Operation) → (e ≡ d) ⊎ IsMember e seen → Has u.flags (sum_with o e).translation (sum_with o e).sign
+sums_next t u o d p seen q put h e (inr k) = put.keeps (sum_with o e).translation (sum_with o e).sign (h e k)
+sums_next t u o d p seen q put h e (inl f) = subst (λ (r : Operation). Has u.flags r.translation r.sign) (q ∙ ap (sum_with o) (sym f)) put.flagged
 
 -- one more of gens
-pub carried_next : (t u : PureTable) (o x p : Operation) (seen : List Operation) → p ≡ carried_by o x → IsPut t u p → HasCarried t o seen → (y : Operation) → IsMember y seen ⊎ (y ≡ x) → Has u.flags (carried_by o y).translation (carried_by o y).sign
-carried_next t u o x p seen q put h y (inl k) = put.keeps (carried_by o y).translation (carried_by o y).sign (h y k)
-carried_next t u o x p seen q put h y (inr f) = subst (λ (r : Operation). Has u.flags r.translation r.sign) (q ∙ ap (carried_by o) (sym f)) put.flagged
+pub carried_next : (t u : PureTable) (o x p : Operation) (seen : List Operation) → p ≡ carried_by o x → IsPut t u p → HasCarried t o seen → (y : Operation) → (y ≡ x) ⊎ IsMember y seen → Has u.flags (carried_by o y).translation (carried_by o y).sign
+carried_next t u o x p seen q put h y (inr k) = put.keeps (carried_by o y).translation (carried_by o y).sign (h y k)
+carried_next t u o x p seen q put h y (inl f) = subst (λ (r : Operation). Has u.flags r.translation r.sign) (q ∙ ap (carried_by o) (sym f)) put.flagged
 
 -- ---- products
 
@@ -91,20 +92,20 @@ step_kept os ds es o s h = record { rep = h.rep; member = h.member; matrix = h.m
 
 -- one more difference
 pub differences_next : (os gens seen old new : List Operation) (r x o s d : Operation) → AreRotations gens → StandForMatrices gens os → IsMember r os → IsMember x gens → IsComposed 12 r x o → IsMember s os → o.matrix ≡ s.matrix → d ≡ pure (reduced (difference o.translation s.translation)) (both o.sign s.sign) →
-    HasDifferences os gens r seen old new → (ys : List Operation) → ((y : Operation) → IsMember y ys → IsMember y seen ⊎ (y ≡ x)) → HasDifferences os gens r ys old (new ++ (d ∷ []))
+    HasDifferences os gens r seen old new → (ys : List Operation) → ((y : Operation) → IsMember y ys → (y ≡ x) ⊎ IsMember y seen) → HasDifferences os gens r ys old (new ++ (d ∷ []))
 differences_next os gens seen old new r x o s d g c m k h n e q f ys cases = record {
   starts = starts_push old new d f.starts;
-  made = λ a. record { each = λ p j. made a p (member_more new d p j) };
+  made = λ a. record { each = λ p j. made a p (pushed_member new d p j) };
   each = λ y j. by y (cases y j);
 }
   where
-    made : AreProducts gens old → (p : Operation) → IsMember p new ⊎ (p ≡ d) → IsProduct gens p
-    made a p (inl j) = (f.made a).each p j
-    made a p (inr t) = subst (IsProduct gens) (sym (t ∙ q)) (difference_product gens g.inverses o s (subst (IsProduct gens) (sym (composed_then r x o h)) (product_then gens r x (c.partial.products.each r m) (generator_product gens x k (g.within x k)))) (c.partial.products.each s n) e)
+    made : AreProducts gens old → (p : Operation) → (p ≡ d) ⊎ IsMember p new → IsProduct gens p
+    made a p (inr j) = (f.made a).each p j
+    made a p (inl t) = subst (IsProduct gens) (sym (t ∙ q)) (difference_product gens g.inverses o s (subst (IsProduct gens) (sym (composed_then r x o h)) (product_then gens r x (c.partial.products.each r m) (generator_product gens x k (g.within x k)))) (c.partial.products.each s n) e)
 
-    by : (y : Operation) → IsMember y seen ⊎ (y ≡ x) → IsStep os (new ++ (d ∷ [])) (then r y)
-    by y (inl j) = step_kept os new (new ++ (d ∷ [])) (then r y) (starts_push new new d (starts_refl new)) (f.each y j)
-    by y (inr t) =
+    by : (y : Operation) → (y ≡ x) ⊎ IsMember y seen → IsStep os (new ++ (d ∷ [])) (then r y)
+    by y (inr j) = step_kept os new (new ++ (d ∷ [])) (then r y) (starts_push new new d (starts_refl new)) (f.each y j)
+    by y (inl t) =
         let same : o ≡ then r y = composed_then r x o h ∙ ap (then r) (sym t) in
         subst (IsStep os (new ++ (d ∷ []))) same (record { rep = s; member = n; matrix = e; step = subst (λ (p : Operation). IsMember p (new ++ (d ∷ []))) q (member_last new d) })
 
@@ -118,15 +119,15 @@ pub differences_start : (os gens : List Operation) (r : Operation) (old : List O
 differences_start os gens r old = record { starts = starts_refl old; made = λ a. a; each = λ x m. absurd m }
 
 -- one more of the operations
-pub steps_next : (os gens seen old new : List Operation) (r : Operation) → HaveSteps os old seen gens → HasDifferences os gens r gens old new → (qs : List Operation) → ((q : Operation) → IsMember q qs → IsMember q seen ⊎ (q ≡ r)) → HaveSteps os new qs gens
+pub steps_next : (os gens seen old new : List Operation) (r : Operation) → HaveSteps os old seen gens → HasDifferences os gens r gens old new → (qs : List Operation) → ((q : Operation) → IsMember q qs → (q ≡ r) ⊎ IsMember q seen) → HaveSteps os new qs gens
 steps_next os gens seen old new r h d qs cases = record {
   made = d.made h.made;
   each = λ q x m k. by q x k (cases q m);
 }
   where
-    by : (q x : Operation) → IsMember x gens → IsMember q seen ⊎ (q ≡ r) → IsStep os new (then q x)
-    by q x k (inl m) = step_kept os old new (then q x) d.starts (h.each q x m k)
-    by q x k (inr e) = subst (λ (p : Operation). IsStep os new (then p x)) (sym e) (d.each x k)
+    by : (q x : Operation) → IsMember x gens → (q ≡ r) ⊎ IsMember q seen → IsStep os new (then q x)
+    by q x k (inr m) = step_kept os old new (then q x) d.starts (h.each q x m k)
+    by q x k (inl e) = subst (λ (p : Operation). IsStep os new (then p x)) (sym e) (d.each x k)
 
 pub steps_start : (os gens : List Operation) → HaveSteps os [] [] gens
 steps_start os gens = record { made = record { each = λ o m. absurd m }; each = λ r x m k. absurd m }
@@ -166,16 +167,16 @@ table_splits gens os steps t c h k m = record {
 pub sums_all : (steps : List Operation) (t u v : PureTable) (i : ℕ) (p : Operation) → IsMore t u → IsMore u v → i < length t.found → p ≡ get_or t.found i p → HasSums u p steps → ((o : Operation) → IsMember o (take i t.found) → HasSums t o steps) → (o : Operation) → IsMember o (take (i + 1) v.found) → HasSums v o steps
 sums_all steps t u v i p a b l e h before o m = by (taken_next t.found v.found i p o (more_both t u v a b).starts l e m)
   where
-    by : IsMember o (take i t.found) ⊎ (o ≡ p) → HasSums v o steps
-    by (inl k) = sums_kept t v o steps (more_both t u v a b) (before o k)
-    by (inr q) = subst (λ (w : Operation). HasSums v w steps) (sym q) (sums_kept u v p steps b h)
+    by : (o ≡ p) ⊎ IsMember o (take i t.found) → HasSums v o steps
+    by (inr k) = sums_kept t v o steps (more_both t u v a b) (before o k)
+    by (inl q) = subst (λ (w : Operation). HasSums v w steps) (sym q) (sums_kept u v p steps b h)
 
 pub carried_all : (gens : List Operation) (t v : PureTable) (i : ℕ) (p : Operation) → IsMore t v → i < length t.found → p ≡ get_or t.found i p → HasCarried v p gens → ((o : Operation) → IsMember o (take i t.found) → HasCarried t o gens) → (o : Operation) → IsMember o (take (i + 1) v.found) → HasCarried v o gens
 carried_all gens t v i p a l e h before o m = by (taken_next t.found v.found i p o a.starts l e m)
   where
-    by : IsMember o (take i t.found) ⊎ (o ≡ p) → HasCarried v o gens
-    by (inl k) = carried_kept t v o gens a (before o k)
-    by (inr q) = subst (λ (w : Operation). HasCarried v w gens) (sym q) h
+    by : (o ≡ p) ⊎ IsMember o (take i t.found) → HasCarried v o gens
+    by (inr k) = carried_kept t v o gens a (before o k)
+    by (inl q) = subst (λ (w : Operation). HasCarried v w gens) (sym q) h
 
 pub longer_next : (t v : PureTable) (i : ℕ) → IsMore t v → i < length t.found → i + 1 ≤ length v.found
 longer_next t v i a l = let n = starts_longer t.found v.found a.starts in omega arith

@@ -4,11 +4,11 @@
 --   products_entries     so their entries are not large
 use Rattle.std.proofs.Common.{◌≡◌, ◌^◌, ◌≤◌, List, length, sym, ◌∙◌, ap, subst, arith}
 use Rattle.ring.specs.Size.{AtMost}
+use Rattle.lists.specs.Increasing.{IsMember}
+use Rattle.lists.proofs.Members.{mapped_member}
 use Rattle.matrix3.specs.Matrices.{EachEntry}
-use Rattle.crystal_spec.specs.Increasing.{IsMember}
 use Rattle.crystal_spec.specs.Matrices.{Matrix}
 use Rattle.crystal_spec.specs.Operations.{Operation, IsWithinCell}
-use Rattle.basis_spec.proofs.FirstAtoms.{mapped_member}
 use Rattle.op_group.specs.Composition.{identity_operation, IsComposed, IsInverseModulo}
 use Rattle.op_group.specs.Groups.{IsGroupModulo}
 use Rattle.hall_symbol.specs.Compositions.{then}
@@ -17,7 +17,7 @@ use Rattle.hall_text.specs.Products.{IsProduct, matrices_of, IsGroupOf, HasFewMa
 use Rattle.hall_text.specs.Splits.{AreRotations, StandForMatrices}
 use Rattle.hall_text.proofs.ProductLemmas.{product_within, product_then, identity_product}
 use Rattle.hall_text.proofs.Inverses.{undone}
-use Rattle.hall_text.proofs.Listed.{length_map}
+use Rattle.std.proofs.lemmas.List.{length-map}
 use Rattle.hall_text.proofs.Closing.{product_reached, powers_up, raised}
 
 -- What undoes b from one side undoes it from the other, where b undoes a from that side: c b = b a = 1 gives c = a.
@@ -57,7 +57,7 @@ module _ (gens reps os : List Operation) (c : StandForMatrices gens reps) (g : I
   products_matrices = record {
     matrices = matrices_of reps;
     all = λ o m. (let h = product_reached gens reps c o ((g.exact o).0 m) in subst (λ (w : Matrix). IsMember w (matrices_of reps)) (sym h.matrix) (mapped_member (λ (p : Operation). p.matrix) h.op reps h.member));
-    few = omega (arith, length_map (λ (p : Operation). p.matrix) reps, c.partial.few);
+    few = omega (arith, length-map reps (λ (p : Operation). p.matrix), c.partial.few);
   }
 
   pub products_entries : HasEntriesAtMost (10 ^ 23) os

@@ -6,15 +6,15 @@ use Rattle.std.specs.Prelude.{ℤ, pos, ◌+ℤ◌}
 use Rattle.std.proofs.lemmas.Int.{ints}
 use Rattle.ring.specs.Ring.{quoted, var, con, ◌:+◌}
 use Rattle.numbers.specs.Residue.{residue}
+use Rattle.lists.specs.Increasing.{IsMember}
 use Rattle.matrix3.specs.Matrices.{coordinates, vector_of_variables}
 use Rattle.matrix3.specs.Matrices as formulas
 use Rattle.crystal_spec.specs.declared.Sign.{Sign}
 use Rattle.crystal_spec.specs.declared.Sign.TheVariants.{Same}
-use Rattle.crystal_spec.specs.Increasing.{IsMember}
 use Rattle.crystal_spec.specs.Matrices.{Triple, Matrix, product, identity, image, multiple, sum_of, difference}
 use Rattle.crystal_spec.specs.Operations.{Operation, IsWithinCell}
 use Rattle.crystal_spec.proofs.Identities.{by_triples}
-use Rattle.basis_spec.specs.Positions.{origin}
+use Rattle.positions.specs.Positions.{origin}
 use Rattle.op_group.specs.Composition.{identity_operation}
 use Rattle.hall_symbol.specs.Compositions.{both, reduced, then}
 use Rattle.hall_symbol.proofs.RotationMatrices.{matrix_power}

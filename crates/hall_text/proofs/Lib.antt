@@ -1,12 +1,12 @@
-pub mod ProductLemmas
-pub mod Inverses
-pub mod Splitting
-pub mod SymbolGenerators
-pub mod Listed
-pub mod Closing
-pub mod PureLemmas
-pub mod ClosureLemmas
-pub mod ListingLemmas
-pub mod Groups
-pub mod RowLemmas
+mod ProductLemmas
+mod Inverses
+mod Splitting
+mod SymbolGenerators
+mod Listed
+mod Closing
+mod PureLemmas
+mod ClosureLemmas
+mod ListingLemmas
+mod Groups
+mod RowLemmas
 mod KnownValues

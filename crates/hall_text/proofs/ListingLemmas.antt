@@ -4,19 +4,19 @@
 --   listing_start, listing_next                the operations of all matrices
 --   listing_group                              they are exactly the products
 use Rattle.std.proofs.Common.{◌≡◌, ◌⊎◌, inl, inr, ℕ, suc, ◌<◌, ◌+◌, List, [], ◌∷◌, ◌++◌, length, take, get_or, map, refl, sym, ◌∙◌, ap, subst, append_assoc, add-one}
-use Rattle.std.specs.Prelude.{◌↔◌, ℤ, pos, negsuc}
+use Rattle.std.specs.Prelude.{◌↔◌, pos, negsuc}
 use Rattle.std.proofs.Math.Seq.{take-suc}
 use Rattle.std.proofs.lemmas.List.{map-append}
 use Rattle.ring.specs.Ring.{quoted, con}
+use Rattle.lists.specs.Increasing.{IsMember}
+use Rattle.lists.proofs.Members.{mapped_from, mapped_member, member_left, member_right, member_either}
 use Rattle.matrix3.specs.Matrices.{coordinates, vector_of_variables}
 use Rattle.matrix3.specs.Matrices as formulas
 use Rattle.crystal_spec.specs.declared.Sign.{Sign}
 use Rattle.crystal_spec.specs.declared.Sign.TheVariants.{Same, Reversed}
-use Rattle.crystal_spec.specs.Increasing.{IsMember}
 use Rattle.crystal_spec.specs.Matrices.{Triple, sum_of, difference, multiple}
 use Rattle.crystal_spec.specs.Operations.{Operation, IsWithinCell}
 use Rattle.crystal_spec.proofs.Identities.{by_triples}
-use Rattle.basis_spec.proofs.FirstAtoms.{mapped_from, mapped_member}
 use Rattle.op_group.specs.Lists.{AllWithinCell}
 use Rattle.hall_symbol.specs.Compositions.{both, reduced}
 use Rattle.hall_symbol.proofs.Compositions.{reduces_12, reduced_within, reduced_same, reduced_is}
@@ -27,7 +27,6 @@ use Rattle.hall_text.specs.Listings.{after, IsAfter, HasListed, IsListing}
 use Rattle.hall_text.proofs.ProductLemmas.{product_within}
 use Rattle.hall_text.proofs.Splitting.{operation_same, product_splits, splits_product}
 use Rattle.hall_text.proofs.ClosureLemmas.{sum_reduced, table_splits}
-use Rattle.hall_text.proofs.Listed.{append_left, append_right, append_cases}
 
 -- ---- one matrix
 
@@ -89,17 +88,17 @@ pushed_after r found old ops i p x h e f g =
 
 -- all of them
 pub listed_after : (t : PureTable) (r : Operation) (old new : List Operation) → IsPureTable t → new ≡ old ++ map (after r) t.found → HasListed t r old new
-listed_after t r old new h e = record { exact = λ o. ((λ m. there o (append_cases old (map (after r) t.found) o (subst (λ (os : List Operation). IsMember o os) e m))), back o) }
+listed_after t r old new h e = record { exact = λ o. ((λ m. there o (member_either o old (map (after r) t.found) (subst (λ (os : List Operation). IsMember o os) e m))), back o) }
   where
     there : (o : Operation) → IsMember o old ⊎ IsMember o (map (after r) t.found) → IsMember o old ⊎ IsAfter t r o
     there o (inl m) = inl m
     there o (inr m) = let k = mapped_from (after r) o t.found m in inr (subst (IsAfter t r) (sym k.is) (after_is t r k.item h k.of_list))
 
     back : (o : Operation) → IsMember o old ⊎ IsAfter t r o → IsMember o new
-    back o (inl m) = subst (λ (os : List Operation). IsMember o os) (sym e) (append_left old (map (after r) t.found) o m)
+    back o (inl m) = subst (λ (os : List Operation). IsMember o os) (sym e) (member_left o old (map (after r) t.found) m)
     back o (inr a) =
         let k = after_from t r o h a in
-        subst (λ (os : List Operation). IsMember o os) (sym e) (append_right old (map (after r) t.found) o (subst (λ (q : Operation). IsMember q (map (after r) t.found)) (sym k.1.1) (mapped_member (after r) k.0 t.found k.1.0)))
+        subst (λ (os : List Operation). IsMember o os) (sym e) (member_right o old (map (after r) t.found) (subst (λ (q : Operation). IsMember q (map (after r) t.found)) (sym k.1.1) (mapped_member (after r) k.0 t.found k.1.0)))
 
 -- ---- all matrices
 
@@ -107,16 +106,16 @@ pub listing_start : (t : PureTable) → IsListing t [] []
 listing_start t = record { exact = λ o. ((λ m. absurd m), (λ p. absurd p.1.0)) }
 
 -- one more matrix
-pub listing_next : (t : PureTable) (seen qs old new : List Operation) (r : Operation) → IsListing t seen old → HasListed t r old new → ((q : Operation) → IsMember q qs → IsMember q seen ⊎ (q ≡ r)) → ((q : Operation) → IsMember q seen → IsMember q qs) → IsMember r qs → IsListing t qs new
+pub listing_next : (t : PureTable) (seen qs old new : List Operation) (r : Operation) → IsListing t seen old → HasListed t r old new → ((q : Operation) → IsMember q qs → (q ≡ r) ⊎ IsMember q seen) → ((q : Operation) → IsMember q seen → IsMember q qs) → IsMember r qs → IsListing t qs new
 listing_next t seen qs old new r g h cases more here = record { exact = λ o. ((λ m. there o ((h.exact o).0 m)), back o) }
   where
     there : (o : Operation) → IsMember o old ⊎ IsAfter t r o → (q : Operation) × (IsMember q qs × IsAfter t q o)
     there o (inl m) = let k = (g.exact o).0 m in (k.0, (more k.0 k.1.0, k.1.1))
     there o (inr a) = (r, (here, a))
 
-    by : (o q : Operation) → IsAfter t q o → IsMember q seen ⊎ (q ≡ r) → IsMember o new
-    by o q a (inl m) = (h.exact o).1 (inl ((g.exact o).1 (q, (m, a))))
-    by o q a (inr e) = (h.exact o).1 (inr (subst (λ (s : Operation). IsAfter t s o) e a))
+    by : (o q : Operation) → IsAfter t q o → (q ≡ r) ⊎ IsMember q seen → IsMember o new
+    by o q a (inr m) = (h.exact o).1 (inl ((g.exact o).1 (q, (m, a))))
+    by o q a (inl e) = (h.exact o).1 (inr (subst (λ (s : Operation). IsAfter t s o) e a))
 
     back : (o : Operation) → (q : Operation) × (IsMember q qs × IsAfter t q o) → IsMember o new
     back o k = by o k.0 k.1.1 (cases k.0 k.1.0)

@@ -2,7 +2,7 @@
 --   identity_product, product_then, generator_product    what is a product
 --   product_within                   a product's translation part is within one cell
 use Rattle.std.proofs.Common.{◌≡◌, List, [], ◌∷◌, ◌++◌, refl, sym, ap, ap₂, subst, ◌∙◌, arith}
-use Rattle.crystal_spec.specs.Increasing.{IsMember}
+use Rattle.lists.specs.Increasing.{IsMember}
 use Rattle.crystal_spec.specs.Operations.{Operation, IsWithinCell}
 use Rattle.op_group.specs.Composition.{identity_operation}
 use Rattle.op_group.proofs.Composing.{origin_within}

@@ -4,7 +4,7 @@
 --   place_same                     a place belongs to one operation
 --   few_found                      a table has at most 3,456 operations
 --   empty_table, put_table, put_is a table without operations, and with one more
-use Rattle.std.proofs.Common.{◌≡◌, ◌⊎◌, inl, inr, ℕ, zero, suc, ◌<◌, ◌≤◌, ◌+◌, ◌-◌, ◌*◌, ◌%◌, Bool, true, false, List, [], ◌∷◌, ◌++◌, map, length, get_or, replicate, refl, sym, ◌∙◌, ap, ap₂, subst, arith}
+use Rattle.std.proofs.Common.{◌≡◌, ◌⊎◌, inl, inr, ℕ, zero, suc, ◌<◌, ◌≤◌, ◌+◌, ◌-◌, ◌*◌, ◌%◌, Bool, true, false, List, [], ◌∷◌, ◌++◌, length, get_or, replicate, refl, sym, ◌∙◌, ap, ap₂, subst, arith}
 use Rattle.std.specs.Prelude.{ℤ, pos, negsuc, ◌+ℤ◌, ◌*ℤ◌, neg_ℤ, ◌≤ℤ◌, ◌<ℤ◌, unsigned_abs}
 use Rattle.std.proofs.lemmas.Int.{ints}
 use Rattle.std.proofs.Math.ListN.{set, length-set}
@@ -13,26 +13,26 @@ use Rattle.std.proofs.Common.{get_or-set_same, get_or-set_other}
 use Rattle.ring.specs.Ring.{quoted, con}
 use Rattle.numbers.specs.Residue.{residue}
 use Rattle.numbers.proofs.ResidueRing.{residue_same}
+use Rattle.lists.specs.Increasing.{IsMember}
+use Rattle.lists.proofs.Distinct.{IsDistinct-pushed}
+use Rattle.lists.proofs.Counting.{few_by_numbers}
+use Rattle.lists.proofs.Members.{member_front, member_last, pushed_member}
 use Rattle.matrix3.specs.Matrices.{entries, coordinates, matrix_of_variables, vector_of_variables}
 use Rattle.matrix3.specs.Matrices as formulas
 use Rattle.crystal_spec.specs.declared.Sign.{Sign}
 use Rattle.crystal_spec.specs.declared.Sign.TheVariants.{Same, Reversed}
-use Rattle.crystal_spec.specs.Increasing.{IsMember}
 use Rattle.crystal_spec.specs.Matrices.{Triple, Matrix, image}
 use Rattle.crystal_spec.specs.Crystals.{position_after}
 use Rattle.crystal_spec.specs.Operations.{Operation, IsWithinCell}
 use Rattle.crystal_spec.proofs.Entrywise.{triple_same}
 use Rattle.crystal_spec.proofs.Identities.{by_triples}
-use Rattle.basis_spec.specs.Positions.{origin}
-use Rattle.basis_spec.proofs.Counting.{length_le, mapped_once}
-use Rattle.basis_spec.proofs.FirstAtoms.{mapped_from}
-use Rattle.op_group.specs.Composition.{ReducesTo}
-use Rattle.op_group.proofs.Reducing.{reduces_once}
+use Rattle.positions.specs.Positions.{origin, IsModulo}
+use Rattle.positions.proofs.Residues.{modulo_once}
 use Rattle.hall_symbol.specs.Compositions.{reduced}
 use Rattle.hall_text.specs.Splits.{pure}
 use Rattle.hall_text.specs.PureTables.{sign_place, place_of, Has, PureTable, IsListed, IsPureTable, IsEmptyTable, IsPut}
 use Rattle.hall_symbol.proofs.Compositions.{reduces_12}
-use Rattle.hall_text.proofs.Listed.{member_left, member_last, member_more, distinct_push, length_map, starts_refl, starts_push}
+use Rattle.hall_text.proofs.Listed.{starts_refl, starts_push}
 
 -- ---- coordinates modulo 12
 
@@ -49,8 +49,8 @@ twelve_more a b h = omega (arith, ints)
 pub residue_less : (a b : ℕ) → b < 12 → residue 12 (pos a +ℤ neg_ℤ (pos b)) ≡ pos ((a + 12 - b) % 12)
 residue_less a b h = residue_same 12 (pos a +ℤ neg_ℤ (pos b)) (pos (a + 12 - b)) (negsuc 0) (twelve_more a b h) ∙ residue_pos (a + 12 - b)
 
-pub carried_is : (w : Matrix) (t r : Triple) → ReducesTo 12 (position_after w origin t) r → r ≡ reduced (image w t)
-carried_is w t r h = reduces_once 12 (image w t) r (reduced (image w t)) (record { within = h.within; cells = h.cells; same = sym (no_more w t) ∙ h.same }) (reduces_12 (image w t))
+pub carried_is : (w : Matrix) (t r : Triple) → IsModulo 12 (position_after w origin t) r → r ≡ reduced (image w t)
+carried_is w t r h = modulo_once 12 (image w t) r (reduced (image w t)) (record { within = h.within; cells = h.cells; same = sym (no_more w t) ∙ h.same }) (reduces_12 (image w t))
   where
     no_more : (w : Matrix) (t : Triple) → position_after w origin t ≡ image w t
     no_more w t = by_triples (entries w ++ coordinates t) (formulas.sum_of quoted (formulas.image quoted (matrix_of_variables 0) (vector_of_variables 9)) (record { x = con (pos 0); y = con (pos 0); z = con (pos 0) })) (formulas.image quoted (matrix_of_variables 0) (vector_of_variables 9)) refl
@@ -103,49 +103,19 @@ place_below t s w =
 
 -- ---- how many
 
--- the numbers below n
-below : ℕ → List ℕ
-below zero = []
-below (suc n) = n ∷ below n
-
-length_below : (n : ℕ) → length (below n) ≡ n
-unfolding below
-length_below zero = refl
-length_below (suc n) = ap suc (length_below n)
-
-member_below : (k n : ℕ) → k < n → IsMember k (below n)
-unfolding below
-member_below k zero h = absurd (omega arith)
-member_below k (suc n) h = by (member_below k n) (last_or_before k n h)
-  where
-    last_or_before : (k n : ℕ) → k < suc n → (k < n) ⊎ (k ≡ n)
-    last_or_before k n h = grind arith
-
-    by : (k < n → IsMember k (below n)) → (k < n) ⊎ (k ≡ n) → (k ≡ n) ⊎ IsMember k (below n)
-    by rec (inl l) = inr (rec l)
-    by rec (inr e) = inl e
-
 -- the place of an operation
 place_in : Operation → ℕ
 place_in o = place_of o.translation o.sign
 
 pub few_found : (t : PureTable) → IsPureTable t → length t.found ≤ 3456
 unfolding place_in
-few_found t h =
-    let le : length (map place_in t.found) ≤ length (below 3456) = length_le (map place_in t.found) (below 3456) (mapped_once place_in t.found h.distinct one) there in
-    omega (arith, le, length_map place_in t.found, length_below 3456)
+few_found t h = few_by_numbers place_in 3456 t.found h.distinct (λ o m. let a = h.flagged o m in place_below o.translation o.sign a.within) one
   where
     one : (o p : Operation) → IsMember o t.found → IsMember p t.found → place_in o ≡ place_in p → o ≡ p
     one o p m k e =
         let a = h.flagged o m in
         let b = h.flagged p k in
         a.is_pure ∙ place_same o.translation p.translation o.sign p.sign a.within b.within e ∙ sym b.is_pure
-
-    there : (k : ℕ) → IsMember k (map place_in t.found) → IsMember k (below 3456)
-    there k m =
-        let r = mapped_from place_in k t.found m in
-        let a = h.flagged r.item r.of_list in
-        member_below k 3456 (subst (λ (i : ℕ). i < 3456) (sym r.is) (place_below r.item.translation r.item.sign a.within))
 
 -- ---- tables
 
@@ -202,14 +172,14 @@ module _ (flags : List Bool) (found : List Operation) (t : Triple) (s : Sign) (h
   put_table new = record {
     size = length-set flags (place_of t s) true ∙ h.size;
     listed = λ v r in_cell k. listed v r in_cell (put_only v r in_cell k);
-    flagged = λ o m. flagged o (member_more found (pure t s) o m);
-    distinct = distinct_push found (pure t s) h.distinct (λ m. new (h.flagged (pure t s) m).flagged);
+    flagged = λ o m. flagged o (pushed_member found (pure t s) o m);
+    distinct = IsDistinct-pushed found (pure t s) h.distinct (λ m. new (h.flagged (pure t s) m).flagged);
   }
     where
       listed : (v : Triple) (r : Sign) → IsWithinCell 12 v → Has flags v r ⊎ (pure v r ≡ pure t s) → IsMember (pure v r) (found ++ (pure t s ∷ []))
-      listed v r in_cell (inl k) = member_left found (pure t s) (pure v r) (h.listed v r in_cell k)
+      listed v r in_cell (inl k) = member_front found (pure t s) (pure v r) (h.listed v r in_cell k)
       listed v r in_cell (inr e) = subst (λ (o : Operation). IsMember o (found ++ (pure t s ∷ []))) (sym e) (member_last found (pure t s))
 
-      flagged : (o : Operation) → IsMember o found ⊎ (o ≡ pure t s) → IsListed (set flags (place_of t s) true) o
-      flagged o (inl m) = let a = h.flagged o m in record { within = a.within; is_pure = a.is_pure; flagged = put_keeps o.translation o.sign a.flagged }
-      flagged o (inr e) = subst (IsListed (set flags (place_of t s) true)) (sym e) (record { within = w; is_pure = refl; flagged = put_here })
+      flagged : (o : Operation) → (o ≡ pure t s) ⊎ IsMember o found → IsListed (set flags (place_of t s) true) o
+      flagged o (inr m) = let a = h.flagged o m in record { within = a.within; is_pure = a.is_pure; flagged = put_keeps o.translation o.sign a.flagged }
+      flagged o (inl e) = subst (IsListed (set flags (place_of t s) true)) (sym e) (record { within = w; is_pure = refl; flagged = put_here })

@@ -8,7 +8,7 @@ use Rattle.hall_text.specs.declared.rows.Row.{Row}
 use Rattle.plain_text.specs.Text.{lines}
 use Rattle.hall_text.specs.Tables.{spaced, is_skipped, kept, rows, row_of, IsRowFault, AreRows, IsFirstFault}
 use Rattle.hall_text.specs.RowSteps.{IsLineRead}
-use Rattle.hall_text.proofs.Listed.{length_push}
+use Rattle.std.proofs.lemmas.List.{length_push}
 
 kept-skipped : (l : List ℕ) (ls : List (List ℕ)) → is_skipped l ≡ true → kept (l ∷ ls) ≡ kept ls
 kept-skipped l ls e = rw e refl

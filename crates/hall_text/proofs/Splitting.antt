@@ -5,16 +5,16 @@
 use Rattle.std.proofs.Common.{◌≡◌, List, [], ◌∷◌, ◌++◌, refl, sym, ap, ap₂, subst, subst₂, ◌∙◌}
 use Rattle.std.specs.Prelude.{pos, negsuc, ◌*ℤ◌}
 use Rattle.ring.specs.Ring.{quoted, con}
+use Rattle.lists.specs.Increasing.{IsMember}
 use Rattle.matrix3.specs.Matrices.{entries, coordinates, matrix_of_variables, vector_of_variables}
 use Rattle.matrix3.specs.Matrices as formulas
 use Rattle.crystal_spec.specs.declared.Sign.{Sign}
 use Rattle.crystal_spec.specs.declared.Sign.TheVariants.{Same, Reversed}
-use Rattle.crystal_spec.specs.Increasing.{IsMember}
 use Rattle.crystal_spec.specs.Matrices.{Triple, Matrix, product, identity, image, multiple, sum_of, difference}
 use Rattle.crystal_spec.specs.Crystals.{position_after}
 use Rattle.crystal_spec.specs.Operations.{Operation, IsWithinCell, sign_factor}
 use Rattle.crystal_spec.proofs.Identities.{by_triples, by_matrices}
-use Rattle.basis_spec.specs.Positions.{origin}
+use Rattle.positions.specs.Positions.{origin}
 use Rattle.op_group.specs.Composition.{identity_operation, IsComposed}
 use Rattle.hall_symbol.specs.Compositions.{both, reduced, then}
 use Rattle.hall_text.specs.Products.{product_of, AreAmong, IsProduct}

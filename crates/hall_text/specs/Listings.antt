@@ -4,7 +4,7 @@
 --   HasListed t r a b       the list b has, beside those of a, exactly these
 --   IsListing t rs os       the list has exactly those of each of rs
 use Rattle.std.specs.Prelude.{◌≡◌, ◌↔◌, ◌⊎◌, List}
-use Rattle.crystal_spec.specs.Increasing.{IsMember}
+use Rattle.lists.specs.Increasing.{IsMember}
 use Rattle.crystal_spec.specs.Matrices.{sum_of, difference}
 use Rattle.crystal_spec.specs.Operations.{Operation, IsWithinCell}
 use Rattle.hall_symbol.specs.Compositions.{both, reduced}

@@ -8,8 +8,8 @@
 -- Translation parts are in units of 1/12, from 0 to 11; `then` is that of hall_symbol's `specs/Compositions`.
 use Rattle.std.specs.Prelude.{◌≡◌, ◌↔◌, ◌≤◌, ℕ, List, [], ◌∷◌, map, length}
 use Rattle.ring.specs.Size.{AtMost}
+use Rattle.lists.specs.Increasing.{IsMember, IsDistinct}
 use Rattle.matrix3.specs.Matrices.{EachEntry}
-use Rattle.crystal_spec.specs.Increasing.{IsMember, IsDistinct}
 use Rattle.crystal_spec.specs.Matrices.{Matrix}
 use Rattle.crystal_spec.specs.Operations.{Operation}
 use Rattle.op_group.specs.Composition.{identity_operation}

@@ -6,13 +6,12 @@
 --   IsPureTable t       they belong together
 --   IsClosed ..         the table is closed under adding the steps and under the operations gens
 use Rattle.std.specs.Prelude.{◌≡◌, ◌⊎◌, ℕ, ◌+◌, ◌*◌, Bool, true, false, List, length, get_or, unsigned_abs}
+use Rattle.lists.specs.Increasing.{IsMember, IsDistinct}
 use Rattle.crystal_spec.specs.declared.Sign.{Sign}
 use Rattle.crystal_spec.specs.declared.Sign.TheVariants.{Same, Reversed}
-use Rattle.crystal_spec.specs.Increasing.{IsMember, IsDistinct}
 use Rattle.crystal_spec.specs.Matrices.{Triple, image, sum_of, difference}
 use Rattle.crystal_spec.specs.Operations.{Operation, IsWithinCell}
-use Rattle.basis_spec.specs.Positions.{origin}
-use Rattle.op_group.specs.Views.{translation_of}
+use Rattle.positions.specs.Positions.{origin, triple_of}
 use Rattle.hall_text.specs.declared.pures.Pure.{Pure}
 use Rattle.hall_symbol.specs.Compositions.{both, reduced, then}
 use Rattle.hall_text.specs.Products.{IsProduct, AreProducts}
@@ -20,7 +19,7 @@ use Rattle.hall_text.specs.Splits.{pure, Starts}
 
 -- the operation (I, t, s)
 abbrev pub pure_of : Pure → Operation
-pure_of p = pure (translation_of p.shift) p.sign
+pure_of p = pure (triple_of p.shift) p.sign
 
 abbrev pub sign_place : Sign → ℕ
 sign_place Same = 0

@@ -6,13 +6,13 @@
 --   Splits rs T o        o is one of rs and after it an (I, t, s) for which T holds
 use Rattle.std.specs.Prelude.{◌≡◌, ⊤, suc, ◌≤◌, ◌^◌, List, ◌++◌, length}
 use Rattle.ring.specs.Size.{AtMost}
+use Rattle.lists.specs.Increasing.{IsMember, IsDistinct}
 use Rattle.matrix3.specs.Matrices.{EachEntry}
 use Rattle.crystal_spec.specs.declared.Sign.{Sign}
 use Rattle.crystal_spec.specs.declared.Sign.TheVariants.{Same}
-use Rattle.crystal_spec.specs.Increasing.{IsMember, IsDistinct}
 use Rattle.crystal_spec.specs.Matrices.{Triple, Matrix, image, identity, sum_of, difference}
 use Rattle.crystal_spec.specs.Operations.{Operation, IsWithinCell}
-use Rattle.basis_spec.specs.Positions.{origin}
+use Rattle.positions.specs.Positions.{origin}
 use Rattle.op_group.specs.Composition.{identity_operation}
 use Rattle.hall_symbol.specs.Compositions.{both, reduced, then}
 use Rattle.hall_text.specs.Products.{IsProduct, AreProducts, matrices_of, TooMany}

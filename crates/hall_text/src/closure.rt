@@ -1,8 +1,9 @@
 // The operations (I, t, s) of a group: those that come after the operations that stand for its matrices.
 ghost use Rattle.std.specs.Prelude.{◌≡◌, ◌<◌, ◌≤◌, [], length, map, IfOk, OnOk, vec_items, List};
-ghost use Rattle.crystal_spec.specs.Increasing.{IsMember};
+ghost use Rattle.lists.specs.Increasing.{IsMember};
 ghost use Rattle.crystal_spec.specs.Operations.{Operation, IsWithinCell};
-ghost use Rattle.op_group.specs.Views.{operation_of, translation_of};
+ghost use Rattle.op_group.specs.Views.{operation_of};
+ghost use Rattle.positions.specs.Positions.{triple_of};
 ghost use Rattle.hall_text.specs.Products.{IsProduct, AreProducts};
 ghost use Rattle.hall_symbol.specs.Views.{AreSmall};
 ghost use Rattle.hall_text.specs.Splits.{AreRotations, StandForMatrices};
@@ -47,7 +48,7 @@ pub(crate) fn differences(alloc: Global, ops: &[Op], gens: &[Op]) -> Result<Vec<
 /// Puts the sums of o with each of the steps into the table.
 fn put_sums(table: &mut Table, o: &Pure, steps: &[Pure]) -> Result<(), AllocError>
     requires within { AreWithin (map pure_of steps.now) }
-    requires o { IsWithinCell 12 (translation_of o.now.shift) }
+    requires o { IsWithinCell 12 (triple_of o.now.shift) }
     ensures more { OnOk result (IsMore table.old table.new) }
     ensures sums { OnOk result (HasSums table.new (pure_of o.now) (map pure_of steps.now)) }
     ensures made { OnOk result ((gens : List Operation) → AreProducts gens (map pure_of steps.now) → IsProduct gens (pure_of o.now) → AreMade gens table.old → AreMade gens table.new) }
@@ -61,7 +62,7 @@ fn put_sums(table: &mut Table, o: &Pure, steps: &[Pure]) -> Result<(), AllocErro
 /// Puts o carried by each of gens into the table.
 fn put_carried(table: &mut Table, o: &Pure, gens: &[Op]) -> Result<(), AllocError>
     requires rotations { AreRotations (map operation_of gens.now) }
-    requires o { IsWithinCell 12 (translation_of o.now.shift) }
+    requires o { IsWithinCell 12 (triple_of o.now.shift) }
     ensures more { OnOk result (IsMore table.old table.new) }
     ensures carried { OnOk result (HasCarried table.new (pure_of o.now) (map operation_of gens.now)) }
     ensures made { OnOk result (IsProduct (map operation_of gens.now) (pure_of o.now) → AreMade (map operation_of gens.now) table.old → AreMade (map operation_of gens.now) table.new) }

@@ -15,8 +15,6 @@ mod listing;
 mod matrices;
 mod pures;
 mod rows;
-#[cfg(test)]
-mod tests;
 pub mod texts;
 
 pub use fault::{ExpandError, RowFault, TableError};

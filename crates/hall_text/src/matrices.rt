@@ -1,6 +1,6 @@
 // Operations that stand for the matrices of a group: one product for each matrix.
 ghost use Rattle.std.specs.Prelude.{◌≡◌, ◌<◌, ◌≤◌, ◌^◌, map, length, vec_items, IfOk, IfErr, OnOk, OnErr, IfSome, IfNone, IsTrue, ◌↔◌, List};
-ghost use Rattle.crystal_spec.specs.Increasing.{IsMember};
+ghost use Rattle.lists.specs.Increasing.{IsMember};
 ghost use Rattle.crystal_spec.specs.Operations.{Operation};
 ghost use Rattle.op_group.specs.Views.{operation_of};
 ghost use Rattle.op_group.specs.Composition.{identity_operation};
@@ -9,7 +9,6 @@ ghost use Rattle.hall_text.specs.Splits.{AreRotations, ArePartial, IsNext, IsAdd
 use crate::fault::ExpandError;
 use crystal_spec::Sign;
 use exact_num::Int;
-use hall_symbol::identity;
 use matrix3::Mat3;
 use op_group::{Op, compose};
 use std::alloc::Global;
@@ -42,7 +41,7 @@ pub(crate) fn identity_operation() -> Op
     ensures { operation_of result ≡ identity_operation }
 {
     Op {
-        w: identity(),
+        w: Mat3::identity(),
         shift: [0, 0, 0],
         sign: Sign::Same,
     }

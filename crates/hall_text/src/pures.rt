@@ -4,13 +4,14 @@ ghost use Rattle.ring.specs.Size.{AtMost};
 ghost use Rattle.matrix3.specs.Matrices.{EachEntry};
 ghost use Rattle.crystal_spec.specs.Matrices.{Triple, image, sum_of, difference};
 ghost use Rattle.crystal_spec.specs.Operations.{Operation, IsWithinCell};
-ghost use Rattle.op_group.specs.Views.{operation_of, translation_of};
+ghost use Rattle.op_group.specs.Views.{operation_of};
+ghost use Rattle.positions.specs.Positions.{triple_of};
 ghost use Rattle.hall_symbol.specs.Compositions.{both, reduced};
 ghost use Rattle.hall_text.specs.Splits.{pure};
 ghost use Rattle.hall_text.specs.PureTables.{pure_of, place_of, sign_place, Has, PureTable, IsPureTable, IsEmptyTable, IsPut, sum_with, carried_by};
 
 use crystal_spec::Sign;
-use hall_symbol::identity;
+use matrix3::Mat3;
 use op_group::{Op, compose};
 use std::alloc::{AllocError, Global};
 use std::marker::Model;
@@ -46,9 +47,9 @@ fn less(a: u32, b: u32) -> u32
 
 /// The operation (I, t, s) that comes after `s` in an operation of the same matrix.
 pub(crate) fn difference(o: &Op, s: &Op) -> Pure
-    requires o { IsWithinCell 12 (translation_of o.now.shift) }
-    requires s { IsWithinCell 12 (translation_of s.now.shift) }
-    ensures { pure_of result ≡ pure (reduced (difference (translation_of o.now.shift) (translation_of s.now.shift))) (both o.now.sign s.now.sign) }
+    requires o { IsWithinCell 12 (triple_of o.now.shift) }
+    requires s { IsWithinCell 12 (triple_of s.now.shift) }
+    ensures { pure_of result ≡ pure (reduced (difference (triple_of o.now.shift) (triple_of s.now.shift))) (both o.now.sign s.now.sign) }
 {
     let a = o.shift;
     let b = s.shift;
@@ -60,8 +61,8 @@ pub(crate) fn difference(o: &Op, s: &Op) -> Pure
 
 /// One after the other.
 pub(crate) fn sum(o: &Pure, d: &Pure) -> Pure
-    requires o { IsWithinCell 12 (translation_of o.now.shift) }
-    requires d { IsWithinCell 12 (translation_of d.now.shift) }
+    requires o { IsWithinCell 12 (triple_of o.now.shift) }
+    requires d { IsWithinCell 12 (triple_of d.now.shift) }
     ensures { pure_of result ≡ sum_with (pure_of o.now) (pure_of d.now) }
 {
     let a = o.shift;
@@ -79,7 +80,7 @@ pub(crate) fn carried(o: &Pure, x: &Op) -> Pure
 {
     let shift = o.shift;
     let first = Op {
-        w: identity(),
+        w: Mat3::identity(),
         shift,
         sign: o.sign,
     };
@@ -108,8 +109,8 @@ fn sign_place(sign: Sign) -> usize
 
 /// The place in a table.
 fn place(o: &Pure) -> usize
-    requires { IsWithinCell 12 (translation_of o.now.shift) }
-    ensures value { result ≡ place_of (translation_of o.now.shift) o.now.sign }
+    requires { IsWithinCell 12 (triple_of o.now.shift) }
+    ensures value { result ≡ place_of (triple_of o.now.shift) o.now.sign }
     ensures within { result < 3456 }
 {
     let t = o.shift;
@@ -164,15 +165,15 @@ impl Table {
 
     /// Whether it has the operation.
     pub(crate) fn has(&self, o: &Pure) -> bool
-        requires { IsWithinCell 12 (translation_of o.now.shift) }
-        ensures { IsTrue result ↔ Has self.now.flags (translation_of o.now.shift) o.now.sign }
+        requires { IsWithinCell 12 (triple_of o.now.shift) }
+        ensures { IsTrue result ↔ Has self.now.flags (triple_of o.now.shift) o.now.sign }
     {
         self.flags[place(o)]
     }
 
     /// Puts the operation in. Refuses for want of memory alone.
     pub(crate) fn put(&mut self, o: Pure) -> Result<(), AllocError>
-        requires { IsWithinCell 12 (translation_of o.shift) }
+        requires { IsWithinCell 12 (triple_of o.shift) }
         ensures { OnOk result (IsPut self.old self.new (pure_of o)) }
     {
         if self.has(&o) {

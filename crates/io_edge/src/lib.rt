@@ -27,8 +27,6 @@ mod sink;
 mod source;
 mod std_sink;
 mod std_source;
-#[cfg(test)]
-mod tests;
 
 pub use bytes::Bytes;
 pub use dir_shelf::DirShelf;

@@ -9,23 +9,24 @@ use Rattle.ring.specs.Ring.{Ops, int_ops, quoted}
 use Rattle.ring.specs.Size.{AtMost}
 use Rattle.ring.proofs.Solving.{by_ring}
 use Rattle.ring.proofs.IntRing.{int_laws}
+use Rattle.lists.specs.Increasing.{IsIncreasing, IsMember, inserted}
+use Rattle.lists.specs.Any.{AnyOf}
+use Rattle.lists.proofs.Increasing.{IsMember-inserted}
 use Rattle.matrix3.specs.declared.vector.Vec3.{Vec3}
-use Rattle.matrix3.specs.Matrices.{coordinates, vector_of_variables, EachEntry}
+use Rattle.matrix3.specs.Matrices.{coordinates, vector_of_variables, EachEntry, of_columns}
 use Rattle.matrix3.specs.Matrices as formulas
-use Rattle.crystal_spec.specs.Increasing.{IsIncreasing, IsMember, inserted}
 use Rattle.crystal_spec.specs.Matrices.{Matrix, Triple, transposed}
 use Rattle.crystal_spec.specs.Crystals.{KeepsMetric}
 use Rattle.crystal_spec.proofs.Entrywise.{matrix_same}
-use Rattle.crystal_spec.proofs.Ordered.{IsMember-inserted}
 use Rattle.lattice_spec.specs.Niggli.{HasShortAxes}
 use Rattle.lattice_spec.specs.Tensor.{Tensor, tensor_matrix}
 use Rattle.lattice_spec.proofs.Height.{tensor, listed}
 use Rattle.lattice_spec.proofs.Limits.{IsReduced}
 use Rattle.lattice_spec.proofs.Isometry.{isometry_small}
 use Rattle.crystal.specs.declared.metric.Metric.{Metric}
-use Rattle.crystal.specs.Bounds.{EntriesAtMost}
+use Rattle.matrix3.specs.Bounds.{EntriesAtMost}
 use Rattle.lattice_iso.specs.Isometries.{matrix_order, ListsIsometries}
-use Rattle.lattice_iso.specs.Columns.{scalar_product, of_columns, ListsOfLength, AnyOf, IsMatrixOf, HasColumns, HasColumnsOf}
+use Rattle.lattice_iso.specs.Columns.{scalar_product, ListsOfLength, IsMatrixOf, HasColumns, HasColumnsOf}
 use Rattle.lattice_iso.proofs.Places.{matrix_order_exact}
 
 -- ---- one matrix

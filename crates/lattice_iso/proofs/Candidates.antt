@@ -1,22 +1,27 @@
 -- The candidates are exactly the columns of entries -1, 0 and 1.
---   IsFoundBelow g n k v   v is a candidate of a number below k, and its squared length is n
+--   IsFoundAt g n v i      v is the candidate number i, and its squared length is n
+--   IsFoundBelow g n k v   so it is for a number below k
 use Rattle.std.proofs.Common.{◌≡◌, refl, sym, ap, subst, ◌∙◌, ◌⊎◌, inl, inr, ℕ, zero, suc, ◌+◌, ◌*◌, ◌/◌, ◌%◌, ◌<◌, ◌≤◌, List, [], ◌∷◌, ◌++◌, arith}
 use Rattle.std.specs.Prelude.{ℤ, pos, negsuc, ◌-ℤ◌, unsigned_abs, ◌↔◌}
 use Rattle.std.proofs.lemmas.Int.{ints}
 use Rattle.ring.specs.Size.{AtMost}
-use Rattle.crystal_spec.specs.Increasing.{IsMember}
+use Rattle.lists.specs.Increasing.{IsMember}
+use Rattle.lists.specs.Any.{AnyBelow}
+use Rattle.lists.proofs.Members.{IsMember-pushed}
+use Rattle.lists.proofs.Any.{alone_more, alone_same}
 use Rattle.crystal_spec.specs.Matrices.{Triple, Matrix}
 use Rattle.crystal_spec.proofs.Entrywise.{triple_same}
-use Rattle.crystal.specs.Bounds.{CoordinatesAtMost}
-use Rattle.lattice_iso.proofs.Members.{IsMember-pushed}
+use Rattle.matrix3.specs.Bounds.{CoordinatesAtMost}
 use Rattle.lattice_iso.specs.Columns.{candidate, scalar_product, IsOfLength, ListsOfLength}
 
--- the candidates of numbers below k whose squared length is n
-pub record IsFoundBelow (g : Matrix) (n : ℤ) (k : ℕ) (v : Triple) : Type 0 where
-  pub number : ℕ
-  pub below : number < k
+-- the candidate of this number, whose squared length is n
+pub record IsFoundAt (g : Matrix) (n : ℤ) (v : Triple) (number : ℕ) : Type 0 where
   pub same : v ≡ candidate number
   pub same_length : scalar_product g v v ≡ n
+
+-- a candidate of a number below k
+abbrev pub IsFoundBelow : Matrix → ℤ → ℕ → Triple → Type 0
+IsFoundBelow g n k v = AnyBelow k (IsFoundAt g n v)
 
 -- a small entry is a digit less one
 digit_of : (z : ℤ) → unsigned_abs z ≤ 1 → (d : ℕ) × (d < 3) × (pos d -ℤ pos 1 ≡ z)
@@ -55,46 +60,29 @@ digit_small d h = record { size = omega (arith, ints) }
 pub candidate_small : (k : ℕ) → CoordinatesAtMost 1 (candidate k)
 candidate_small k = record { x = digit_small (k / 9 % 3) (omega arith); y = digit_small (k / 3 % 3) (omega arith); z = digit_small (k / 1 % 3) (omega arith) }
 
-below_or : (n k : ℕ) → n < k + 1 → (n < k) ⊎ (n ≡ k)
-below_or zero zero p = inr refl
-below_or zero (suc k) p = inl (omega arith)
-below_or (suc n) zero p = absurd (omega arith)
-below_or (suc n) (suc k) p = by (below_or n k (omega arith))
-  where
-    by : (n < k) ⊎ (n ≡ k) → (suc n < suc k) ⊎ (suc n ≡ suc k)
-    by (inl q) = inl (omega arith)
-    by (inr q) = inr (omega arith)
-
 module _ (g : Matrix) (n : ℤ) (k : ℕ) (vs : List Triple) (so_far : (v : Triple) → IsMember v vs ↔ IsFoundBelow g n k v) where
   -- a candidate of this length is put behind the others
   pub found_more : (u : Triple) → u ≡ candidate k → scalar_product g u u ≡ n → (v : Triple) → IsMember v (vs ++ u ∷ []) ↔ IsFoundBelow g n (k + 1) v
-  found_more u is same v = ((λ m. into ((IsMember-pushed vs u v).0 m)), (λ f. (IsMember-pushed vs u v).1 (back f (below_or f.number k f.below))))
+  found_more u is same v = alone_more (IsFoundAt g n v) k (IsMember v (vs ++ u ∷ [])) (IsMember v vs) (so_far v) ((λ m. into ((IsMember-pushed vs u v).0 m)), (λ h. (IsMember-pushed vs u v).1 (back h)))
     where
-      into : (v ≡ u) ⊎ IsMember v vs → IsFoundBelow g n (k + 1) v
-      into (inl e) = record { number = k; below = omega arith; same = e ∙ is; same_length = subst (λ (x : Triple). scalar_product g x x ≡ n) (sym e) same }
-      into (inr m) = let f = (so_far v).0 m in record { number = f.number; below = omega (arith, f.below); same = f.same; same_length = f.same_length }
+      into : (v ≡ u) ⊎ IsMember v vs → IsFoundAt g n v k ⊎ IsMember v vs
+      into (inl e) = inl (record { same = e ∙ is; same_length = subst (λ (x : Triple). scalar_product g x x ≡ n) (sym e) same })
+      into (inr m) = inr m
 
-      back : (f : IsFoundBelow g n (k + 1) v) → (f.number < k) ⊎ (f.number ≡ k) → (v ≡ u) ⊎ IsMember v vs
-      back f (inl below) = inr ((so_far v).1 (record { number = f.number; below = below; same = f.same; same_length = f.same_length }))
-      back f (inr last) = inl (f.same ∙ ap candidate last ∙ sym is)
+      back : IsFoundAt g n v k ⊎ IsMember v vs → (v ≡ u) ⊎ IsMember v vs
+      back (inl f) = inl (f.same ∙ sym is)
+      back (inr m) = inr m
 
   -- a candidate of another length is left out
   pub found_not : (scalar_product g (candidate k) (candidate k) ≡ n → ⊥) → (v : Triple) → IsMember v vs ↔ IsFoundBelow g n (k + 1) v
-  found_not other v = (into, (λ f. back f (below_or f.number k f.below)))
-    where
-      into : IsMember v vs → IsFoundBelow g n (k + 1) v
-      into m = let f = (so_far v).0 m in record { number = f.number; below = omega (arith, f.below); same = f.same; same_length = f.same_length }
-
-      back : (f : IsFoundBelow g n (k + 1) v) → (f.number < k) ⊎ (f.number ≡ k) → IsMember v vs
-      back f (inl below) = (so_far v).1 (record { number = f.number; below = below; same = f.same; same_length = f.same_length })
-      back f (inr last) = absurd (other (subst (λ (x : Triple). scalar_product g x x ≡ n) (f.same ∙ ap candidate last) f.same_length))
+  found_not other v = alone_same (IsFoundAt g n v) k (IsMember v vs) (λ f. other (subst (λ (x : Triple). scalar_product g x x ≡ n) f.same f.same_length)) (so_far v)
 
 -- after all 27 candidates
 pub found_all : (g : Matrix) (n : ℤ) (vs : List Triple) → ((v : Triple) → IsMember v vs ↔ IsFoundBelow g n 27 v) → ListsOfLength g n vs
 found_all g n vs found = record { exact = λ v. ((λ m. into v ((found v).0 m)), (λ l. back v l)) }
   where
     into : (v : Triple) → IsFoundBelow g n 27 v → IsOfLength g n v
-    into v f = record { small = subst (CoordinatesAtMost 1) (sym f.same) (candidate_small f.number); same_length = f.same_length }
+    into v f = record { small = subst (CoordinatesAtMost 1) (sym f.holds.same) (candidate_small f.number); same_length = f.holds.same_length }
 
     back : (v : Triple) → IsOfLength g n v → IsMember v vs
-    back v l = let k = number_of v l.small in (found v).1 (record { number = k.0; below = k.1; same = k.2; same_length = l.same_length })
+    back v l = let k = number_of v l.small in (found v).1 (record { number = k.0; below = k.1; holds = record { same = k.2; same_length = l.same_length } })

@@ -3,7 +3,8 @@ use Rattle.std.proofs.Common.{◌≡◌, refl, ℤ, pos, negsuc}
 use Rattle.std.specs.declared.cmp.Ordering.TheVariants.{Less, Equal, Greater}
 use Rattle.crystal_spec.specs.Matrices.{Triple, Matrix, identity}
 use Rattle.lattice_iso.specs.Isometries.{matrix_order}
-use Rattle.lattice_iso.specs.Columns.{candidate, scalar_product, of_columns}
+use Rattle.lattice_iso.specs.Columns.{candidate, scalar_product}
+use Rattle.matrix3.specs.Matrices.{of_columns}
 
 abbrev at : ℤ → ℤ → ℤ → Triple
 at x y z = record { x = x; y = y; z = z }

@@ -1,8 +1,6 @@
 -- The order of matrices at a few values.
 mod KnownValues
-pub mod Members
 pub mod Candidates
-pub mod Ranges
+mod Ranges
 pub mod Places
 pub mod ByColumns
-pub mod TestedMetrics

@@ -4,17 +4,17 @@
 --   of_columns a b c           the matrix of these columns
 --   IsOfLength g n v           v has entries -1, 0 and 1, and its squared length is n
 --   ListsOfLength g n vs       vs lists exactly the columns of this length
---   AnyOf xs P                 P holds of an element of xs
 --   IsMatrixOf g a b c w       w is the matrix of the columns a, b and c, whose products of c with a and b are those of the axes
 --   HasColumns g a b vs w      so it is for a third column of vs, and the product of a and b is that of the axes
 --   HasFirstColumn g a us vs w so it is for a second column of us
 --   HasColumnsOf g ts us vs w  so it is for a first column of ts
 use Rattle.std.specs.Prelude.{◌≡◌, ◌↔◌, ℕ, ℤ, pos, ◌/◌, ◌%◌, ◌-ℤ◌, List}
 use Rattle.ring.specs.Ring.{int_ops}
+use Rattle.lists.specs.Increasing.{IsMember}
+use Rattle.lists.specs.Any.{AnyOf}
 use Rattle.matrix3.specs.Matrices.{dot}
-use Rattle.crystal_spec.specs.Increasing.{IsMember}
 use Rattle.crystal_spec.specs.Matrices.{Triple, Matrix, image}
-use Rattle.crystal.specs.Bounds.{CoordinatesAtMost}
+use Rattle.matrix3.specs.Bounds.{CoordinatesAtMost}
 
 -- the digit at this power of 3, less one
 abbrev pub entry_at : ℕ → ℕ → ℤ
@@ -38,12 +38,6 @@ pub record IsOfLength (g : Matrix) (n : ℤ) (v : Triple) : Type 0 where
 
 pub record ListsOfLength (g : Matrix) (n : ℤ) (vs : List Triple) : Type 0 where
   pub exact : (v : Triple) → IsMember v vs ↔ IsOfLength g n v
-
--- an element of the list has the property
-pub record AnyOf {X : Type 0} (xs : List X) (P : X → Type 0) : Type 0 where
-  pub x : X
-  pub of_list : IsMember x xs
-  pub holds : P x
 
 pub record IsMatrixOf (g : Matrix) (a b c : Triple) (w : Matrix) : Type 0 where
   pub same_ac : scalar_product g a c ≡ g.a13

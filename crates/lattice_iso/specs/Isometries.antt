@@ -5,8 +5,8 @@ use Rattle.std.specs.Prelude.{◌↔◌, List}
 use Rattle.std.specs.declared.cmp.Ordering.{Ordering}
 use Rattle.std.specs.Ordering.{int_cmp}
 use Rattle.std.specs.Cmp.Lexicographic.{slice_cmp}
+use Rattle.lists.specs.Increasing.{IsIncreasing, IsMember}
 use Rattle.matrix3.specs.Matrices.{entries}
-use Rattle.crystal_spec.specs.Increasing.{IsIncreasing, IsMember}
 use Rattle.crystal_spec.specs.Matrices.{Matrix}
 use Rattle.crystal_spec.specs.Crystals.{KeepsMetric}
 

@@ -1,5 +1,5 @@
 ghost use Rattle.std.specs.Prelude.{◌≡◌, ◌<◌, ◌^◌, IfOk};
-ghost use Rattle.crystal.specs.Bounds.{EntriesAtMost, CoordinatesAtMost};
+ghost use Rattle.matrix3.specs.Bounds.{EntriesAtMost, CoordinatesAtMost};
 ghost use Rattle.lattice_iso.specs.Columns.{entry_at, candidate, scalar_product, ListsOfLength};
 
 use exact_num::Int;
@@ -7,7 +7,7 @@ use matrix3::{Mat3, Vec3};
 use std::alloc::{AllocError, Global};
 
 /// How many columns have entries -1, 0 and 1: 3 to the power of 3.
-const CANDIDATES: u32 = 27;
+pub const CANDIDATES: u32 = 27;
 
 /// The entry whose digit in the base 3 stands at this power of 3, less one.
 fn entry(number: u32, power: u32) -> Int
@@ -17,8 +17,8 @@ fn entry(number: u32, power: u32) -> Int
     Int::new((number / power % 3) as i128 - 1).unwrap()
 }
 
-/// The column of entries -1, 0 and 1 of this number.
-fn candidate(number: u32) -> Vec3<Int>
+/// The column of entries -1, 0 and 1 of this number, of which the base 3 has a digit an entry.
+pub fn candidate(number: u32) -> Vec3<Int>
     ensures value { result ≡ candidate number }
     ensures small { CoordinatesAtMost 1 result }
 {
@@ -30,8 +30,10 @@ fn candidate(number: u32) -> Vec3<Int>
 }
 
 /// The scalar product of two vectors, given by their coordinates along the axes of the metric tensor.
-pub(crate) fn product(g: &Mat3<Int>, u: &Vec3<Int>, v: &Vec3<Int>) -> Int
-    requires metric { EntriesAtMost (10 ^ 16) g.now }
+///
+/// Asks for coordinates -1, 0 and 1, and entries of the metric tensor up to 10^34.
+pub fn product(g: &Mat3<Int>, u: &Vec3<Int>, v: &Vec3<Int>) -> Int
+    requires metric { EntriesAtMost (10 ^ 34) g.now }
     requires first { CoordinatesAtMost 1 u.now }
     requires second { CoordinatesAtMost 1 v.now }
     ensures { result ≡ scalar_product g.now u.now v.now }
@@ -47,7 +49,7 @@ pub(crate) fn columns_of_length(
     g: &Mat3<Int>,
     length: Int,
 ) -> Result<Vec<Vec3<Int>>, AllocError>
-    requires metric { EntriesAtMost (10 ^ 16) g.now }
+    requires metric { EntriesAtMost (10 ^ 34) g.now }
     ensures exact { IfOk result (λ columns. ListsOfLength g.now length columns.items) }
 {
     let mut columns = Vec::new(alloc);

@@ -8,8 +8,7 @@
 mod columns;
 mod list;
 mod search;
-#[cfg(test)]
-mod tests;
 
+pub use columns::{CANDIDATES, candidate, product};
 pub use list::Isos;
 pub use search::isometries;

@@ -1,6 +1,6 @@
 ghost use Rattle.std.specs.Prelude.{◌≡◌, ◌<◌, ◌≤◌, [], length, slice_get, Some, IfErr, OnOk, OnErr};
 ghost use Rattle.std.specs.List.{insert};
-ghost use Rattle.crystal_spec.specs.Increasing.{IsIncreasing, IsMember, inserted};
+ghost use Rattle.lists.specs.Increasing.{IsIncreasing, IsMember, inserted};
 ghost use Rattle.lattice_iso.specs.Isometries.{matrix_order};
 
 use exact_num::Int;
@@ -17,7 +17,7 @@ pub struct Isos {
 
 impl Model for Isos {
     ghost use Rattle.std.specs.Prelude.{List};
-    ghost use Rattle.crystal_spec.specs.Increasing.{IsIncreasing};
+    ghost use Rattle.lists.specs.Increasing.{IsIncreasing};
     ghost use Rattle.crystal_spec.specs.Matrices.{Matrix};
     ghost use Rattle.lattice_iso.specs.Isometries.{matrix_order};
 

@@ -1,12 +1,12 @@
 ghost use Rattle.std.specs.Prelude.{◌≡◌, ◌↔◌, ◌⊎◌, ◌^◌, IfOk, OnOk};
-ghost use Rattle.crystal_spec.specs.Increasing.{IsIncreasing, IsMember};
+ghost use Rattle.lists.specs.Increasing.{IsIncreasing, IsMember};
 ghost use Rattle.crystal_spec.specs.Matrices.{Matrix, transposed};
 ghost use Rattle.crystal_spec.specs.Crystals.{KeepsMetric};
 ghost use Rattle.lattice_spec.specs.Niggli.{HasShortAxes, IsNiggli};
 ghost use Rattle.crystal.specs.Views.{metric_of};
-ghost use Rattle.crystal.specs.Bounds.{EntriesAtMost, CoordinatesAtMost};
+ghost use Rattle.matrix3.specs.Bounds.{EntriesAtMost, CoordinatesAtMost};
 ghost use Rattle.lattice_iso.specs.Isometries.{matrix_order, ListsIsometries};
-ghost use Rattle.lattice_iso.specs.Columns.{of_columns, ListsOfLength, IsMatrixOf, HasColumns, HasFirstColumn, HasColumnsOf};
+ghost use Rattle.lattice_iso.specs.Columns.{ListsOfLength, IsMatrixOf, HasColumns, HasFirstColumn, HasColumnsOf};
 
 use crate::columns::{columns_of_length, product};
 use crate::list::Isos;
@@ -14,26 +14,6 @@ use crystal::Metric;
 use exact_num::Int;
 use matrix3::{Mat3, Vec3};
 use std::alloc::{AllocError, Global};
-
-/// The matrix of these columns.
-fn of_columns(a: &Vec3<Int>, b: &Vec3<Int>, c: &Vec3<Int>) -> Mat3<Int>
-    ensures { result ≡ of_columns a.now b.now c.now }
-{
-    let a = *a;
-    let b = *b;
-    let c = *c;
-    Mat3 {
-        a11: a.x,
-        a12: b.x,
-        a13: c.x,
-        a21: a.y,
-        a22: b.y,
-        a23: c.y,
-        a31: a.z,
-        a32: b.z,
-        a33: c.z,
-    }
-}
 
 /// Puts the matrix of these columns into the list, where the products of c with a and b are those of the axes.
 fn add_matrix(
@@ -43,14 +23,14 @@ fn add_matrix(
     c: &Vec3<Int>,
     found: &mut Isos,
 ) -> Result<(), AllocError>
-    requires metric { EntriesAtMost (10 ^ 16) g.now }
+    requires metric { EntriesAtMost (10 ^ 34) g.now }
     requires a { CoordinatesAtMost 1 a.now }
     requires b { CoordinatesAtMost 1 b.now }
     requires c { CoordinatesAtMost 1 c.now }
     ensures members { OnOk result ((w : Matrix) → IsMember w found.new ↔ (IsMatrixOf g.now a.now b.now c.now w ⊎ IsMember w found.old)) }
 {
     if product(g, a, c) == g.a13 && product(g, b, c) == g.a23 {
-        found.insert(of_columns(a, b, c))?;
+        found.insert(Mat3::of_columns(a, b, c))?;
     }
     Ok(())
 }
@@ -63,7 +43,7 @@ fn add_with_columns(
     third: &[Vec3<Int>],
     found: &mut Isos,
 ) -> Result<(), AllocError>
-    requires metric { EntriesAtMost (10 ^ 16) g.now }
+    requires metric { EntriesAtMost (10 ^ 34) g.now }
     requires a { CoordinatesAtMost 1 a.now }
     requires b { CoordinatesAtMost 1 b.now }
     requires third { ListsOfLength g.now g.now.a33 third.now }
@@ -86,7 +66,7 @@ fn add_with_first_column(
     third: &[Vec3<Int>],
     found: &mut Isos,
 ) -> Result<(), AllocError>
-    requires metric { EntriesAtMost (10 ^ 16) g.now }
+    requires metric { EntriesAtMost (10 ^ 34) g.now }
     requires a { CoordinatesAtMost 1 a.now }
     requires second { ListsOfLength g.now g.now.a22 second.now }
     requires third { ListsOfLength g.now g.now.a33 third.now }
@@ -106,7 +86,7 @@ fn all_of_columns(
     second: &[Vec3<Int>],
     third: &[Vec3<Int>],
 ) -> Result<Isos, AllocError>
-    requires metric { EntriesAtMost (10 ^ 16) g.now }
+    requires metric { EntriesAtMost (10 ^ 34) g.now }
     requires first { ListsOfLength g.now g.now.a11 first.now }
     requires second { ListsOfLength g.now g.now.a22 second.now }
     requires third { ListsOfLength g.now g.now.a33 third.now }

@@ -1,9 +1,9 @@
-pub mod Falling
-pub mod Needed
-pub mod Signs
-pub mod Exit
-pub mod GoodSteps
-pub mod Measure
-pub mod Dividing
-pub mod Products
-pub mod Reducing
+mod Falling
+mod Needed
+mod Signs
+mod Exit
+mod GoodSteps
+mod Measure
+mod Dividing
+mod Products
+mod Reducing

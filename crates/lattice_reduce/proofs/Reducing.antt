@@ -21,7 +21,7 @@ use Rattle.lattice_spec.specs.Niggli.{IsNiggli}
 use Rattle.lattice_spec.proofs.Steps.{tensor_of_variables, tensor_entries, congruent, IsBasisChange, change_start, change_more}
 use Rattle.lattice_spec.proofs.Definite.{aa_positive, bb_positive, cc_positive}
 use Rattle.lattice_spec.proofs.Ranges.{DiagonalAtMost, tensor_at_most, change_at_most, inverse_at_most, changed_definite}
-use Rattle.crystal.specs.Bounds.{EntriesAtMost}
+use Rattle.matrix3.specs.Bounds.{EntriesAtMost}
 use Rattle.lattice_reduce.specs.declared.step.Step.{Step}
 use Rattle.lattice_reduce.specs.declared.step.Step.TheVariants.{ExchangeFirst, ExchangeLast, KeepFirst, KeepSecond, KeepThird, SecondLessFirst, ThirdLessSecond, ThirdLessFirst, AddToThird}
 use Rattle.lattice_reduce.specs.Steps.{after_step, step_matrix, step_inverse, exchange_first, exchange_last, keep_first, keep_second, keep_third, second_less_first, third_less_second, third_less_first, add_to_third, exchange_first_matrix, exchange_last_matrix, keep_first_matrix, keep_second_matrix, keep_third_matrix, second_less_first_matrix, third_less_second_matrix, third_less_first_matrix, add_to_third_matrix, second_less_first_inverse, third_less_second_inverse, third_less_first_inverse}

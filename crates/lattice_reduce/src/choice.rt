@@ -7,7 +7,7 @@
 ghost use Rattle.std.specs.Prelude.{◌≡◌, ◌^◌, pos, ◌≤ℤ◌, ◌<ℤ◌, MatchOption};
 ghost use Rattle.std.specs.Bool.{MatchBool};
 ghost use Rattle.crystal.specs.Views.{metric_of};
-ghost use Rattle.crystal.specs.Bounds.{EntriesAtMost};
+ghost use Rattle.matrix3.specs.Bounds.{EntriesAtMost};
 ghost use Rattle.lattice_spec.specs.Niggli.{IsAcute, IsObtuse, IsNiggli};
 ghost use Rattle.lattice_reduce.specs.Steps.{tensor_of};
 ghost use Rattle.lattice_reduce.specs.Parts.{IsSorted, IsShort, IsSigned, HasAcuteEdges, HasObtuseEdges, HasPositiveDiagonal, excess_of, edge_of};

@@ -8,7 +8,5 @@ mod choice;
 mod number;
 mod reduction;
 mod step;
-#[cfg(test)]
-mod tests;
 
 pub use reduction::{Reduced, reduce};

@@ -5,7 +5,7 @@ ghost use Rattle.crystal_spec.specs.Matrices.{product, transposed, determinant, 
 ghost use Rattle.crystal_spec.specs.Crystals.{IsPositive};
 ghost use Rattle.lattice_spec.specs.Niggli.{IsNiggli};
 ghost use Rattle.crystal.specs.Views.{metric_of};
-ghost use Rattle.crystal.specs.Bounds.{EntriesAtMost};
+ghost use Rattle.matrix3.specs.Bounds.{EntriesAtMost};
 
 use crate::choice::choose;
 use crate::step::{after_step, identity, step_inverse, step_matrix};

@@ -4,7 +4,7 @@ ghost use Rattle.std.specs.Prelude.{◌≡◌, ◌^◌, pos};
 ghost use Rattle.ring.specs.Ring.{int_ops};
 ghost use Rattle.ring.specs.Size.{AtMost};
 ghost use Rattle.crystal.specs.Views.{metric_of};
-ghost use Rattle.crystal.specs.Bounds.{EntriesAtMost};
+ghost use Rattle.matrix3.specs.Bounds.{EntriesAtMost};
 ghost use Rattle.crystal_spec.specs.Matrices.{identity};
 ghost use Rattle.lattice_spec.specs.Tensor.{tensor_matrix};
 ghost use Rattle.lattice_reduce.specs.Steps.{tensor_of, after_step, step_matrix, step_inverse, multiple_of, exchange_first_matrix, exchange_last_matrix, second_less_first, third_less_second, third_less_first, add_to_third};

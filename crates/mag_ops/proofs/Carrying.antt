@@ -10,17 +10,19 @@ use Rattle.std.proofs.lemmas.Int.{ints, unsigned_abs-mul}
 use Rattle.std.proofs.lemmas.List.{map_push}
 use Rattle.ring.specs.Ring.{var, ◌:*◌}
 use Rattle.ring.specs.Size.{AtMost}
+use Rattle.matrix3.specs.Matrices.{column1, column2, column3}
+use Rattle.lists.specs.Increasing.{IsMember}
+use Rattle.lists.specs.Any.{AnyOf}
+use Rattle.lists.proofs.Any.{any_all, only_left, any_mapped}
+use Rattle.lists.proofs.Members.{IsMember-pushed}
 use Rattle.crystal_spec.specs.Matrices.{Triple, Matrix, product, image, determinant, adjugate, identity, transposed, multiple, sum_of}
 use Rattle.crystal_spec.specs.Crystals.{Structure, KeepsMetric}
-use Rattle.crystal_spec.specs.Increasing.{IsMember}
 use Rattle.crystal_spec.specs.Operations.{Operation, IsWithinCell, IsSymmetryOperation, ListsAll, ListsAllSame}
 use Rattle.crystal_spec.proofs.Identities.{by_integers}
 use Rattle.lattice_spec.specs.Niggli.{IsNiggli}
-use Rattle.crystal.specs.Bounds.{EntriesAtMost, CoordinatesAtMost}
-use Rattle.lattice_iso.specs.Columns.{AnyOf}
+use Rattle.matrix3.specs.Bounds.{EntriesAtMost, CoordinatesAtMost}
 use Rattle.lattice_iso.proofs.ByColumns.{entries_of_short}
-use Rattle.lattice_iso.proofs.Members.{IsMember-pushed, any_all, only_left}
-use Rattle.basis_spec.specs.Positions.{triple, residue}
+use Rattle.positions.specs.Positions.{modulo}
 use Rattle.basis_spec.specs.Metrics.{matrix_multiple}
 use Rattle.basis_spec.specs.Bases.{IsBack}
 use Rattle.basis_spec.specs.StepBases.{InLattice}
@@ -28,7 +30,7 @@ use Rattle.basis_spec.specs.Translations.{pure_translation}
 use Rattle.basis_spec.specs.Carrying.{IsCarried}
 use Rattle.basis_spec.proofs.MatrixLaws.{product_assoc, image-product, image-matrix_multiple, image-multiple, image-identity, image-image_adjugate, product-identity, product-multiple, product-adjugate, product-matrix_multiple_right, columns_of_product, same_images}
 use Rattle.basis_spec.proofs.Cancelling.{multiple_cancel, matrix_multiple_cancel, image_cancel}
-use Rattle.basis_spec.proofs.Residues.{residue_within}
+use Rattle.positions.proofs.Residues.{modulo_within}
 use Rattle.basis_spec.proofs.CarriedOperations.{made, starts}
 use Rattle.op_group.specs.Lists.{AllWithinCell}
 use Rattle.op_group.specs.Views.{operation_of}
@@ -125,18 +127,6 @@ not_zero k d e h z = omega (arith, ints, sym e ∙ z)
 
 -- ---- matrices by their columns
 
--- the first column
-abbrev pub column1 : Matrix → Triple
-column1 a = triple a.a11 a.a21 a.a31
-
--- the second
-abbrev pub column2 : Matrix → Triple
-column2 a = triple a.a12 a.a22 a.a32
-
--- the third
-abbrev pub column3 : Matrix → Triple
-column3 a = triple a.a13 a.a23 a.a33
-
 -- the columns of R W are those that R makes of the columns of W
 pub column1_of : (m r w : Matrix) → m ≡ product r w → image r (column1 w) ≡ column1 m
 column1_of m r w e = ap column1 (columns_of_product r (column1 w) (column2 w) (column3 w) ∙ sym e)
@@ -169,8 +159,8 @@ module _ (n : ℕ) (p : PrimitiveCell) (form : IsPrimitiveCell p) (n_is : n ≡ 
       down a =
           let t = a.x.translation in
           let member = subst (λ (q : Operation). IsMember q p.shifts.operations) (form.pure a.x a.of_list) a.of_list in
-          let is : o.translation ≡ residue n (sum_of start t) = ap (λ (q : Operation). q.translation) a.holds in
-          let inside : IsWithinCell n o.translation = subst (IsWithinCell n) (sym is) (residue_within n (sum_of start t) some) in
+          let is : o.translation ≡ modulo n (sum_of start t) = ap (λ (q : Operation). q.translation) a.holds in
+          let inside : IsWithinCell n o.translation = subst (IsWithinCell n) (sym is) (modulo_within n (sum_of start t) some) in
           record {
             translation = inside;
             turned = turned ∙ ap (λ (q : Operation). product p.back q.matrix) (sym a.holds);
@@ -220,29 +210,6 @@ none_more {B} {D} none = ((λ d. inr d), back)
     back (inl b) = absurd (none b)
     back (inr d) = d
 
--- what an operation of the program stands for is a member of the list of those
-pub member_mapped : (ys : List Op) (x : Op) → IsMember x ys → IsMember (operation_of x) (map operation_of ys)
-member_mapped [] x m = absurd m
-member_mapped (y ∷ ys) x (inl e) = inl (ap operation_of e)
-member_mapped (y ∷ ys) x (inr m) = inr (member_mapped ys x m)
-
--- a property of an operation of a list, by the operations of the program or by what they stand for
-pub any_mapped : (xs : List Op) (P : Operation → Type 0) → AnyOf xs (λ x. P (operation_of x)) ↔ AnyOf (map operation_of xs) P
-any_mapped xs P = (into xs, back xs)
-  where
-    into : (ys : List Op) → AnyOf ys (λ x. P (operation_of x)) → AnyOf (map operation_of ys) P
-    into ys a = record { x = operation_of a.x; of_list = member_mapped ys a.x a.of_list; holds = a.holds }
-
-    at : (ys : List Op) (o : Operation) → IsMember o (map operation_of ys) → P o → AnyOf ys (λ x. P (operation_of x))
-    at [] o m h = absurd m
-    at (y ∷ ys) o (inl e) h = record { x = y; of_list = inl refl; holds = subst P e h }
-    at (y ∷ ys) o (inr m) h =
-        let later = at ys o m h in
-        record { x = later.x; of_list = inr later.of_list; holds = later.holds }
-
-    back : (ys : List Op) → AnyOf (map operation_of ys) P → AnyOf ys (λ x. P (operation_of x))
-    back ys a = at ys a.x a.of_list a.holds
-
 -- what is carried from a member of the list is what the list carries
 pub carried_from_list : (n : ℕ) (r : Matrix) (os : List Operation) (o : Operation) → AnyOf os (λ v. IsCarriedFrom n r v o) ↔ IsCarried n r os o
 carried_from_list n r os o = (into, back)
@@ -257,7 +224,7 @@ carried_from_list n r os o = (into, back)
 
     back : IsCarried n r os o → AnyOf os (λ v. IsCarriedFrom n r v o)
     back h = record {
-      x = record { matrix = h.matrix; translation = residue n (image r o.translation); sign = o.sign };
+      x = record { matrix = h.matrix; translation = modulo n (image r o.translation); sign = o.sign };
       of_list = h.of_list;
       holds = record { translation = h.translation; turned = h.turned; shifted = refl; same_sign = refl };
     }
@@ -267,7 +234,7 @@ pub list_carried : (n : ℕ) (r : Matrix) (ops : List Op) (os found : List Opera
     ((o : Operation) → IsMember o found ↔ (AnyOf (take i ops) (λ x. IsCarriedFrom n r (operation_of x) o) ⊎ ⊥)) → (o : Operation) → IsMember o found ↔ IsCarried n r os o
 list_carried n r ops os found same i ended h o =
     let all = only_left (any_all ops i (λ x. IsCarriedFrom n r (operation_of x) o) ended (h o)) in
-    let mapped = any_mapped ops (λ v. IsCarriedFrom n r v o) in
+    let mapped = any_mapped operation_of ops (λ v. IsCarriedFrom n r v o) in
     let carried = carried_from_list n r os o in (
       (λ m. carried.0 (subst (λ (l : List Operation). AnyOf l (λ v. IsCarriedFrom n r v o)) same (mapped.0 (all.0 m)))),
       (λ k. all.1 (mapped.1 (subst (λ (l : List Operation). AnyOf l (λ v. IsCarriedFrom n r v o)) (sym same) (carried.1 k)))),

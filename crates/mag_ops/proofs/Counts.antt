@@ -1,48 +1,19 @@
 -- How many atoms are of a species, how many isometries there are, and how many maps are tested for each.
 --
 -- What is left to be tested is told by the rest of a list: with each element it falls by what that element costs.
-use Rattle.std.proofs.Common.{◌≡◌, refl, sym, ap, subst, ◌∙◌, ◌⊎◌, inl, inr, ℕ, zero, suc, ◌+◌, ◌*◌, ◌<◌, ◌≤◌, Bool, true, false, eqb, List, [], ◌∷◌, length, drop, arith}
+use Rattle.std.proofs.Common.{◌≡◌, refl, sym, ap, subst, ◌∙◌, ◌⊎◌, inl, inr, ℕ, suc, ◌+◌, ◌*◌, ◌<◌, ◌≤◌, Bool, true, false, eqb, List, ◌∷◌, length, drop, arith}
 use Rattle.std.specs.Prelude.{slice_get, Some}
-use Rattle.std.specs.declared.cmp.Ordering.{Ordering}
-use Rattle.std.specs.declared.cmp.Ordering.TheVariants.{Less, Equal, Greater}
 use Rattle.std.proofs.lemmas.Bool.Decides.{Decides-eqb}
 use Rattle.std.proofs.lemmas.List.{drop_all}
-use Rattle.crystal_spec.specs.Increasing.{IsMember, inserted}
+use Rattle.lists.specs.Increasing.{IsMember}
+use Rattle.lists.proofs.Increasing.{increasing_unique}
+use Rattle.lists.proofs.Walks.{drop_at}
 use Rattle.crystal_spec.specs.Matrices.{Matrix}
 use Rattle.crystal_spec.specs.Crystals.{Site, Structure}
-use Rattle.crystal_spec.proofs.Ordered.{increasing_unique}
 use Rattle.lattice_iso.specs.Isometries.{ListsIsometries}
 use Rattle.lattice_iso.proofs.Places.{matrix_order_total}
 use Rattle.basis_spec.specs.Translations.{of_species, IsRarest}
 use Rattle.mag_ops.specs.Groups.{signs}
-
-drop_suc : {X : Type 0} (xs : List X) (i : ℕ) (x : X) → slice_get xs i ≡ Some x → drop i xs ≡ x ∷ drop (suc i) xs
-drop_suc [] i x e = absurd (cc e)
-drop_suc {X} (y ∷ ys) zero x e = let is : y ≡ x = cc e in ap (λ (z : X). z ∷ ys) is
-drop_suc (y ∷ ys) (suc i) x e = drop_suc ys i x e
-
-next : (i : ℕ) → suc i ≡ i + 1
-next i = omega arith
-
--- an element stands first in what is left from it on
-pub drop_at : {X : Type 0} (xs : List X) (i : ℕ) (x : X) → slice_get xs i ≡ Some x → drop i xs ≡ x ∷ drop (i + 1) xs
-drop_at xs i x e = drop_suc xs i x e ∙ ap (λ (k : ℕ). x ∷ drop k xs) (next i)
-
--- an element of a list is a member
-pub member_at : {X : Type 0} (xs : List X) (i : ℕ) (x : X) → slice_get xs i ≡ Some x → IsMember x xs
-member_at [] i x e = absurd (cc e)
-member_at (y ∷ ys) zero x e = let is : x ≡ y = cc e in inl is
-member_at (y ∷ ys) (suc i) x e = inr (member_at ys i x e)
-
--- putting an element in makes a list longer by one at most
-pub length-inserted : {X : Type 0} (cmp : X → X → Ordering) (x : X) (ys : List X) → length (inserted cmp x ys) ≤ length ys + 1
-length-inserted cmp x [] = omega arith
-length-inserted {X} cmp x (y ∷ ys) = by (cmp x y) (length-inserted cmp x ys)
-  where
-    by : (o : Ordering) → length (inserted cmp x ys) ≤ length ys + 1 → length {A = X} (elim o [ Less ↦ x ∷ y ∷ ys | Equal ↦ y ∷ ys | Greater ↦ y ∷ inserted cmp x ys ]) ≤ length (y ∷ ys) + 1
-    by Less h = omega arith
-    by Equal h = omega arith
-    by Greater h = omega (arith, h)
 
 -- ---- atoms of a species
 head_of_species : (s : ℕ) (x : Site) (xs : List Site) → x.species ≡ s → length (of_species s (x ∷ xs)) ≡ length (of_species s xs) + 1

@@ -2,24 +2,28 @@
 --
 -- A symmetry operation of matrix w carries an atom onto an atom of its species, so its translation part is the one that does
 -- so, for one of these atoms; and its matrix is an isometry, so it is one of the list of all isometries.
-use Rattle.std.proofs.Common.{◌≡◌, refl, sym, ap, subst, ◌∙◌, ◌⊎◌, inl, inr, ℕ, zero, suc, ◌+◌, ◌<◌, List, [], ◌∷◌, ◌++◌, length, arith}
+use Rattle.std.proofs.Common.{◌≡◌, refl, sym, ap, subst, ◌∙◌, ◌⊎◌, inl, inr, ℕ, ◌+◌, List, [], ◌∷◌, ◌++◌, length}
 use Rattle.std.specs.Prelude.{ℤ, pos, negsuc, ◌↔◌, Bool, true, false, slice_get, Some}
 use Rattle.ring.specs.Ring.{quoted, var, con}
+use Rattle.lists.specs.Increasing.{IsIncreasing, IsMember, inserted}
+use Rattle.lists.proofs.Increasing.{IsMember-inserted}
+use Rattle.lists.proofs.Members.{same_at, place_of_member}
+use Rattle.lists.proofs.Any.{more_below, same_below, alone_more}
 use Rattle.matrix3.specs.Matrices.{coordinates, vector_of_variables}
 use Rattle.matrix3.specs.Matrices as formulas
 use Rattle.crystal_spec.specs.declared.Sign.{Sign}
 use Rattle.crystal_spec.specs.declared.Sign.TheVariants.{Same, Reversed}
-use Rattle.crystal_spec.specs.Increasing.{IsIncreasing, IsMember, inserted}
 use Rattle.crystal_spec.specs.Matrices.{Matrix, Triple, image, multiple, sum_of, difference}
 use Rattle.crystal_spec.specs.Crystals.{Site, Structure, Keeps}
 use Rattle.crystal_spec.specs.Operations.{Operation, IsSymmetryOperation, compare_of, sign_factor}
 use Rattle.crystal_spec.proofs.Identities.{by_triples}
-use Rattle.crystal_spec.proofs.Images.{images_of_keeps, same_within}
-use Rattle.crystal_spec.proofs.Ordered.{IsMember-inserted, compare_exact}
-use Rattle.crystal.specs.Carrying.{FoldsTo}
+use Rattle.crystal_spec.proofs.Images.{images_of_keeps}
+use Rattle.crystal_spec.proofs.Ordered.{compare_exact}
+use Rattle.positions.specs.Positions.{IsModulo}
+use Rattle.positions.proofs.Residues.{modulo_once}
 use Rattle.lattice_iso.specs.Isometries.{ListsIsometries}
 use Rattle.mag_ops.specs.Groups.{ListsGroup, IsWanted}
-use Rattle.mag_ops.specs.Candidates.{IsKeptAs, IsOnto, IsFromAtoms, IsKeptBy, IsFoundBelow}
+use Rattle.mag_ops.specs.Candidates.{IsKeptAs, IsOnto, IsFromAtoms, IsKeptBy, IsFoundBelow, IsFromAtom, IsFoundAt}
 
 -- putting in an operation that keeps the crystal
 pub kept_added : (c : Structure) (op : Operation) (old new : List Operation) → Keeps c op.matrix op.translation (sign_factor op.sign) → new ≡ inserted compare_of op old →
@@ -38,58 +42,28 @@ kept_added c op old new keeps is o = subst (λ (l : List Operation). IsMember o 
     back (inl k) = let m = k.same_matrix in let s = k.same_translation in let t = k.same_sign in inl (λ i. record { matrix = m i; translation = s i; sign = t i })
     back (inr m) = inr m
 
-below_or : (n k : ℕ) → n < k + 1 → (n < k) ⊎ (n ≡ k)
-below_or zero zero p = inr refl
-below_or zero (suc k) p = inl (omega arith)
-below_or (suc n) zero p = absurd (omega arith)
-below_or (suc n) (suc k) p = by (below_or n k (omega arith))
-  where
-    by : (n < k) ⊎ (n ≡ k) → (suc n < suc k) ⊎ (suc n ≡ suc k)
-    by (inl q) = inl (omega arith)
-    by (inr q) = inr (omega arith)
-
 -- ---- one atom after another
 
--- two positions within the cell that differ from one by whole cells are one
-folds_once : (n : ℕ) (p q r : Triple) → FoldsTo n p q → FoldsTo n p r → q ≡ r
-folds_once n p q r f g = same_within n q r (difference g.cells f.cells) f.within g.within (taken q r f.cells g.cells (pos n) (sym f.same ∙ g.same))
-  where
-    taken_off : (a l : Triple) (n : ℤ) → a ≡ sum_of (sum_of a (multiple n l)) (multiple n (multiple (negsuc 0) l))
-    taken_off a l n =
-        let x = vector_of_variables 0 in
-        let y = vector_of_variables 3 in
-        by_triples (coordinates a ++ coordinates l ++ n ∷ []) x (formulas.sum_of quoted (formulas.sum_of quoted x (formulas.multiple quoted (var 6) y)) (formulas.multiple quoted (var 6) (formulas.multiple quoted (con (negsuc 0)) y))) refl
-
-    taken : (a b l k : Triple) (n : ℤ) → sum_of a (multiple n l) ≡ sum_of b (multiple n k) → a ≡ sum_of b (multiple n (difference k l))
-    taken a b l k n e =
-        let x = vector_of_variables 0 in
-        let y = vector_of_variables 3 in
-        let u = vector_of_variables 6 in
-        taken_off a l n ∙ ap (λ (p : Triple). sum_of p (multiple n (multiple (negsuc 0) l))) e
-        ∙ by_triples (coordinates b ++ coordinates k ++ coordinates l ++ n ∷ [])
-        (formulas.sum_of quoted (formulas.sum_of quoted x (formulas.multiple quoted (var 9) y)) (formulas.multiple quoted (var 9) (formulas.multiple quoted (con (negsuc 0)) u)))
-        (formulas.sum_of quoted x (formulas.multiple quoted (var 9) (formulas.difference quoted y u))) refl
-
 -- a kept operation carries the one atom onto the other
-onto_kept : (c : Structure) (time : Bool) (w : Matrix) (t : Triple) (from onto : Site) (o : Operation) (s : Sign) → FoldsTo c.n (difference onto.position (image w from.position)) t → IsWanted time s →
+onto_kept : (c : Structure) (time : Bool) (w : Matrix) (t : Triple) (from onto : Site) (o : Operation) (s : Sign) → IsModulo c.n (difference onto.position (image w from.position)) t → IsWanted time s →
     IsKeptAs c w t s o → IsOnto c time w from onto o
 onto_kept c time w t from onto o s f wanted h = record {
   same_matrix = h.same_matrix;
-  translation = subst (FoldsTo c.n (difference onto.position (image w from.position))) (sym h.same_translation) f;
+  translation = subst (IsModulo c.n (difference onto.position (image w from.position))) (sym h.same_translation) f;
   wanted = subst (IsWanted time) (sym h.same_sign) wanted;
   keeps = subst (λ (r : Triple). Keeps c w r (sign_factor o.sign)) (sym h.same_translation) (subst (λ (r : Sign). Keeps c w t (sign_factor r)) (sym h.same_sign) h.keeps);
 }
 
 -- one that carries the one atom onto the other is kept with the translation part that does so
-kept_onto : (c : Structure) (time : Bool) (w : Matrix) (t : Triple) (from onto : Site) (o : Operation) → FoldsTo c.n (difference onto.position (image w from.position)) t →
+kept_onto : (c : Structure) (time : Bool) (w : Matrix) (t : Triple) (from onto : Site) (o : Operation) → IsModulo c.n (difference onto.position (image w from.position)) t →
     IsOnto c time w from onto o → IsKeptAs c w t o.sign o
 kept_onto c time w t from onto o f k = record { same_matrix = k.same_matrix; same_translation = now; same_sign = refl; keeps = subst (λ (r : Triple). Keeps c w r (sign_factor o.sign)) now k.keeps }
   where
     now : o.translation ≡ t
-    now = folds_once c.n (difference onto.position (image w from.position)) o.translation t k.translation f
+    now = modulo_once c.n (difference onto.position (image w from.position)) o.translation t k.translation f
 
 -- the translation part that carries the one atom onto the other with either sign
-pub onto_more : (c : Structure) (w : Matrix) (t : Triple) (from onto : Site) (o : Operation) (A B D : Type 0) → FoldsTo c.n (difference onto.position (image w from.position)) t →
+pub onto_more : (c : Structure) (w : Matrix) (t : Triple) (from onto : Site) (o : Operation) (A B D : Type 0) → IsModulo c.n (difference onto.position (image w from.position)) t →
     B ↔ (IsKeptAs c w t Same o ⊎ D) → A ↔ (IsKeptAs c w t Reversed o ⊎ B) → A ↔ (IsOnto c true w from onto o ⊎ D)
 onto_more c w t from onto o A B D f same reversed = ((λ a. from_reversed (reversed.0 a)), back)
   where
@@ -113,7 +87,7 @@ onto_more c w t from onto o A B D f same reversed = ((λ a. from_reversed (rever
     back (inr d) = reversed.1 (inr (same.1 (inr d)))
 
 -- without time reversal: that with the sign +1 alone
-pub onto_more_same : (c : Structure) (w : Matrix) (t : Triple) (from onto : Site) (o : Operation) (A D : Type 0) → FoldsTo c.n (difference onto.position (image w from.position)) t →
+pub onto_more_same : (c : Structure) (w : Matrix) (t : Triple) (from onto : Site) (o : Operation) (A D : Type 0) → IsModulo c.n (difference onto.position (image w from.position)) t →
     A ↔ (IsKeptAs c w t Same o ⊎ D) → A ↔ (IsOnto c false w from onto o ⊎ D)
 onto_more_same c w t from onto o A D f same = ((λ a. forth (same.0 a)), back)
   where
@@ -129,70 +103,24 @@ onto_more_same c w t from onto o A D f same = ((λ a. forth (same.0 a)), back)
     back (inl k) = by_sign o.sign k.wanted (kept_onto c false w t from onto o f k)
     back (inr d) = same.1 (inr d)
 
--- one atom more
-from_more : (c : Structure) (time : Bool) (w : Matrix) (from : Site) (i : ℕ) (o : Operation) → IsFromAtoms c time w from i o → IsFromAtoms c time w from (i + 1) o
-from_more c time w from i o k = record { number = k.number; below = omega (arith, k.below); site = k.site; is_site = k.is_site; same_species = k.same_species; onto = k.onto }
-
-same_at : {X : Type 0} (xs : List X) (i : ℕ) (x y : X) → slice_get xs i ≡ Some x → slice_get xs i ≡ Some y → x ≡ y
-same_at xs i x y e f = let k = sym e ∙ f in cc k
-
 -- the next atom, of the species of the first
 pub atoms_more : (c : Structure) (time : Bool) (w : Matrix) (from : Site) (i : ℕ) (onto : Site) (o : Operation) (A D Old : Type 0) → slice_get c.sites i ≡ Some onto → onto.species ≡ from.species → D ↔ (IsFromAtoms c time w from i o ⊎ Old) → A ↔ (IsOnto c time w from onto o ⊎ D) → A ↔ (IsFromAtoms c time w from (i + 1) o ⊎ Old)
-atoms_more c time w from i onto o A D Old is_site species old more = ((λ a. forth (more.0 a)), back)
+atoms_more c time w from i onto o A D Old is_site species old more = more_below (IsFromAtom c time w from o) i A D Old old ((λ a. forth (more.0 a)), (λ h. more.1 (back h)))
   where
-    earlier : IsFromAtoms c time w from i o ⊎ Old → IsFromAtoms c time w from (i + 1) o ⊎ Old
-    earlier (inl k) = inl (from_more c time w from i o k)
-    earlier (inr d) = inr d
+    forth : IsOnto c time w from onto o ⊎ D → IsFromAtom c time w from o i ⊎ D
+    forth (inl k) = inl (record { site = onto; is_site = is_site; same_species = species; onto = k })
+    forth (inr d) = inr d
 
-    forth : IsOnto c time w from onto o ⊎ D → IsFromAtoms c time w from (i + 1) o ⊎ Old
-    forth (inl k) = inl (record { number = i; below = omega arith; site = onto; is_site = is_site; same_species = species; onto = k })
-    forth (inr d) = earlier (old.0 d)
-
-    by_order : (k : IsFromAtoms c time w from (i + 1) o) → (k.number < i) ⊎ (k.number ≡ i) → A
-    by_order k (inl p) = more.1 (inr (old.1 (inl (record { number = k.number; below = p; site = k.site; is_site = k.is_site; same_species = k.same_species; onto = k.onto }))))
-    by_order k (inr e) =
-        let here = same_at c.sites i k.site onto (subst (λ (j : ℕ). slice_get c.sites j ≡ Some k.site) e k.is_site) is_site in
-        more.1 (inl (subst (λ (s : Site). IsOnto c time w from s o) here k.onto))
-
-    back : IsFromAtoms c time w from (i + 1) o ⊎ Old → A
-    back (inl k) = by_order k (below_or k.number i k.below)
-    back (inr d) = more.1 (inr (old.1 (inr d)))
+    back : IsFromAtom c time w from o i ⊎ D → IsOnto c time w from onto o ⊎ D
+    back (inl k) = inl (subst (λ (s : Site). IsOnto c time w from s o) (same_at c.sites i k.site onto k.is_site is_site) k.onto)
+    back (inr d) = inr d
 
 -- the next atom, of another species
 pub atoms_same : (c : Structure) (time : Bool) (w : Matrix) (from : Site) (i : ℕ) (onto : Site) (o : Operation) (D Old : Type 0) → slice_get c.sites i ≡ Some onto → (onto.species ≡ from.species → ⊥) → D ↔ (IsFromAtoms c time w from i o ⊎ Old) → D ↔ (IsFromAtoms c time w from (i + 1) o ⊎ Old)
-atoms_same c time w from i onto o D Old is_site other old = ((λ d. forth (old.0 d)), back)
+atoms_same c time w from i onto o D Old is_site other old = same_below (IsFromAtom c time w from o) i D Old none old
   where
-    forth : IsFromAtoms c time w from i o ⊎ Old → IsFromAtoms c time w from (i + 1) o ⊎ Old
-    forth (inl k) = inl (from_more c time w from i o k)
-    forth (inr d) = inr d
-
-    by_order : (k : IsFromAtoms c time w from (i + 1) o) → (k.number < i) ⊎ (k.number ≡ i) → D
-    by_order k (inl p) = old.1 (inl (record { number = k.number; below = p; site = k.site; is_site = k.is_site; same_species = k.same_species; onto = k.onto }))
-    by_order k (inr e) =
-        let here = same_at c.sites i k.site onto (subst (λ (j : ℕ). slice_get c.sites j ≡ Some k.site) e k.is_site) is_site in
-        absurd (other (ap (λ (s : Site). s.species) (sym here) ∙ k.same_species))
-
-    back : IsFromAtoms c time w from (i + 1) o ⊎ Old → D
-    back (inl k) = by_order k (below_or k.number i k.below)
-    back (inr d) = old.1 (inr d)
-
--- no atom so far
-pub atoms_none : (c : Structure) (time : Bool) (w : Matrix) (from : Site) (o : Operation) (Old : Type 0) → Old ↔ (IsFromAtoms c time w from 0 o ⊎ Old)
-atoms_none c time w from o Old = ((λ d. inr d), back)
-  where
-    back : IsFromAtoms c time w from 0 o ⊎ Old → Old
-    back (inl k) = absurd (omega (arith, k.below))
-    back (inr d) = d
-
-record IsAt {X : Type 0} (xs : List X) (x : X) : Type 0 where
-  number : ℕ
-  below : number < length xs
-  at : slice_get xs number ≡ Some x
-
-at_of_member : {X : Type 0} (xs : List X) (x : X) → IsMember x xs → IsAt xs x
-at_of_member [] x m = absurd m
-at_of_member {X} (y ∷ ys) x (inl e) = record { number = 0; below = omega arith; at = ap (λ (z : X). Some z) (sym e) }
-at_of_member (y ∷ ys) x (inr m) = let k = at_of_member ys x m in record { number = suc k.number; below = omega (arith, k.below); at = k.at }
+    none : IsFromAtom c time w from o i → ⊥
+    none k = other (ap (λ (s : Site). s.species) (sym (same_at c.sites i k.site onto k.is_site is_site)) ∙ k.same_species)
 
 -- the translation part from where the first atom goes
 carried_translation : (i t q d : Triple) (n : ℤ) → sum_of i t ≡ sum_of q (multiple n d) → difference q i ≡ sum_of t (multiple n (multiple (negsuc 0) d))
@@ -213,44 +141,42 @@ pub atoms_all : (c : Structure) (time : Bool) (w : Matrix) (from : Site) (o : Op
 atoms_all c time w from o A Old of_cell found = ((λ a. forth (found.0 a)), (λ h. found.1 (back h)))
   where
     forth : IsFromAtoms c time w from (length c.sites) o ⊎ Old → IsKeptBy c time w o ⊎ Old
-    forth (inl f) = let k = f.onto in inl (record { same_matrix = k.same_matrix; wanted = k.wanted; symmetry = record { translation = k.translation.within; keeps = subst (λ (m : Matrix). Keeps c m o.translation (sign_factor o.sign)) (sym k.same_matrix) k.keeps } })
+    forth (inl f) = let k = f.holds.onto in inl (record { same_matrix = k.same_matrix; wanted = k.wanted; symmetry = record { translation = k.translation.within; keeps = subst (λ (m : Matrix). Keeps c m o.translation (sign_factor o.sign)) (sym k.same_matrix) k.keeps } })
     forth (inr d) = inr d
 
     back : IsKeptBy c time w o ⊎ Old → IsFromAtoms c time w from (length c.sites) o ⊎ Old
     back (inl h) =
         let keeps = subst (λ (m : Matrix). Keeps c m o.translation (sign_factor o.sign)) h.same_matrix h.symmetry.keeps in
         let image_of = images_of_keeps c w o.translation (sign_factor o.sign) keeps from of_cell in
-        let k = at_of_member c.sites image_of.site image_of.of_cell in
+        let k = place_of_member c.sites image_of.site image_of.of_cell in
         inl (record {
           number = k.number;
           below = k.below;
-          site = image_of.site;
-          is_site = k.at;
-          same_species = image_of.same_species;
-          onto = record {
-            same_matrix = h.same_matrix;
-            translation = record { within = h.symmetry.translation; cells = multiple (negsuc 0) image_of.cells; same = carried_translation (image w from.position) o.translation image_of.site.position image_of.cells (pos c.n) image_of.same_position };
-            wanted = h.wanted;
-            keeps = keeps;
+          holds = record {
+            site = image_of.site;
+            is_site = k.at;
+            same_species = image_of.same_species;
+            onto = record {
+              same_matrix = h.same_matrix;
+              translation = record { within = h.symmetry.translation; cells = multiple (negsuc 0) image_of.cells; same = carried_translation (image w from.position) o.translation image_of.site.position image_of.cells (pos c.n) image_of.same_position };
+              wanted = h.wanted;
+              keeps = keeps;
+            };
           };
         })
     back (inr d) = inr d
 
 -- ---- one matrix after another
 pub found_more : (c : Structure) (time : Bool) (ws : List Matrix) (w : Matrix) (k : ℕ) (o : Operation) (A D : Type 0) → slice_get ws k ≡ Some w → D ↔ IsFoundBelow c time ws k o → A ↔ (IsKeptBy c time w o ⊎ D) → A ↔ IsFoundBelow c time ws (k + 1) o
-found_more c time ws w k o A D is old more = ((λ a. forth (more.0 a)), (λ f. by_order f (below_or f.number k f.below)))
+found_more c time ws w k o A D is old more = alone_more (IsFoundAt c time ws o) k A D old ((λ a. forth (more.0 a)), (λ h. more.1 (back h)))
   where
-    forth : IsKeptBy c time w o ⊎ D → IsFoundBelow c time ws (k + 1) o
-    forth (inl h) = record { number = k; below = omega arith; is_matrix = is ∙ ap (λ (m : Matrix). Some m) (sym h.same_matrix); wanted = h.wanted; symmetry = h.symmetry }
-    forth (inr d) = let f = old.0 d in record { number = f.number; below = omega (arith, f.below); is_matrix = f.is_matrix; wanted = f.wanted; symmetry = f.symmetry }
+    forth : IsKeptBy c time w o ⊎ D → IsFoundAt c time ws o k ⊎ D
+    forth (inl h) = inl (record { is_matrix = is ∙ ap (λ (m : Matrix). Some m) (sym h.same_matrix); wanted = h.wanted; symmetry = h.symmetry })
+    forth (inr d) = inr d
 
-    by_order : (f : IsFoundBelow c time ws (k + 1) o) → (f.number < k) ⊎ (f.number ≡ k) → A
-    by_order f (inl p) = more.1 (inr (old.1 (record { number = f.number; below = p; is_matrix = f.is_matrix; wanted = f.wanted; symmetry = f.symmetry })))
-    by_order f (inr e) = more.1 (inl (record { same_matrix = same_at ws k o.matrix w (subst (λ (j : ℕ). slice_get ws j ≡ Some o.matrix) e f.is_matrix) is; wanted = f.wanted; symmetry = f.symmetry }))
-
--- no matrix so far
-pub found_none : (c : Structure) (time : Bool) (ws : List Matrix) (o : Operation) → IsMember o [] ↔ IsFoundBelow c time ws 0 o
-found_none c time ws o = ((λ m. absurd m), (λ f. omega (arith, f.below)))
+    back : IsFoundAt c time ws o k ⊎ D → IsKeptBy c time w o ⊎ D
+    back (inl f) = inl (record { same_matrix = same_at ws k o.matrix w f.is_matrix is; wanted = f.wanted; symmetry = f.symmetry })
+    back (inr d) = inr d
 
 -- all matrices are seen
 pub found_all : (c : Structure) (time : Bool) (ws : List Matrix) (os : List Operation) → ListsIsometries c.metric ws → IsIncreasing compare_of os → ((o : Operation) → IsMember o os ↔ IsFoundBelow c time ws (length ws) o) → ListsGroup c time os
@@ -258,8 +184,8 @@ found_all c time ws os isometries increasing found = by_time time complete found
   where
     complete : (o : Operation) → IsWanted time o.sign → IsSymmetryOperation c o → IsFoundBelow c time ws (length ws) o
     complete o wanted s =
-        let k = at_of_member ws o.matrix ((isometries.exact o.matrix).1 s.keeps.metric) in
-        record { number = k.number; below = k.below; is_matrix = k.at; wanted = wanted; symmetry = s }
+        let k = place_of_member ws o.matrix ((isometries.exact o.matrix).1 s.keeps.metric) in
+        record { number = k.number; below = k.below; holds = record { is_matrix = k.at; wanted = wanted; symmetry = s } }
 
     either : (s : Sign) → IsWanted true s
     either Same = tt
@@ -272,9 +198,9 @@ found_all c time ws os isometries increasing found = by_time time complete found
     by_time : (t : Bool) → ((o : Operation) → IsWanted t o.sign → IsSymmetryOperation c o → IsFoundBelow c t ws (length ws) o) → ((o : Operation) → IsMember o os ↔ IsFoundBelow c t ws (length ws) o) → ListsGroup c t os
     by_time true all f = record {
       increasing = increasing;
-      exact = λ o. ((λ m. ((f o).0 m).symmetry), (λ s. (f o).1 (all o (either o.sign) s)));
+      exact = λ o. ((λ m. ((f o).0 m).holds.symmetry), (λ s. (f o).1 (all o (either o.sign) s)));
     }
     by_time false all f = record {
       increasing = increasing;
-      exact = λ o. ((λ m. let k = (f o).0 m in (k.symmetry, only_same o.sign k.wanted)), (λ s. (f o).1 (all o (subst (IsWanted false) (sym s.1) tt) s.0)));
+      exact = λ o. ((λ m. let k = ((f o).0 m).holds in (k.symmetry, only_same o.sign k.wanted)), (λ s. (f o).1 (all o (subst (IsWanted false) (sym s.1) tt) s.0)));
     }

@@ -1,5 +1,5 @@
-pub mod Found
-pub mod Counts
-pub mod NothingMissed
+mod Found
+mod Counts
+mod NothingMissed
 pub mod Carrying
 mod KnownValues

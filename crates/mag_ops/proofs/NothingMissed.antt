@@ -9,10 +9,10 @@ use Rattle.crystal_spec.specs.Operations.{Operation, sign_factor, ListsAllSame}
 use Rattle.crystal_spec.specs.Cells.{IsCell}
 use Rattle.crystal_spec.proofs.Images.{occupied_itself}
 use Rattle.crystal_spec.proofs.Isometries.{sign_squared}
-use Rattle.basis_spec.specs.Positions.{residue}
+use Rattle.positions.specs.Positions.{modulo}
 use Rattle.basis_spec.specs.Translations.{IsPrimitive}
 use Rattle.basis_spec.specs.Carrying.{KeepsAny, IsListed}
-use Rattle.basis_spec.proofs.Residues.{residue_away, residue_within}
+use Rattle.positions.proofs.Residues.{modulo_away, modulo_within}
 use Rattle.basis_spec.proofs.PrimitiveCell.{differs_sym, cells_alone}
 use Rattle.basis_spec.proofs.WholeMaps.{whole}
 use Rattle.basis_spec.proofs.OperationLists.{keeps_differs}
@@ -28,10 +28,10 @@ same_misses_nothing c os cell primitive a b t d k =
       whole_translation = w.whole_translation;
       matrix_is = w.matrix_is;
       translation_is = w.translation_is;
-      of_list = (a.exact (record { matrix = w.matrix; translation = residue c.n w.whole_translation; sign = Same })).1 (
+      of_list = (a.exact (record { matrix = w.matrix; translation = modulo c.n w.whole_translation; sign = Same })).1 (
         record {
-          translation = residue_within c.n w.whole_translation cell.some_cells;
-          keeps = keeps_differs c w.matrix w.whole_translation (residue c.n w.whole_translation) (pos 1) (differs_sym (residue_away c.n w.whole_translation cell.some_cells)) w.keeps;
+          translation = modulo_within c.n w.whole_translation cell.some_cells;
+          keeps = keeps_differs c w.matrix w.whole_translation (modulo c.n w.whole_translation) (pos 1) (differs_sym (modulo_away c.n w.whole_translation cell.some_cells)) w.keeps;
         },
         refl,
       );

@@ -2,15 +2,18 @@
 --   IsKeptAs c w t s o              o is the operation of matrix w, translation part t and sign s, and keeps the crystal
 --   IsOnto c time w a b o           o is an operation of matrix w and of a wanted sign that keeps the crystal, with the
 --                                   translation part within one cell that carries the atom a onto the atom b
---   IsFromAtoms c time w a k o      so it is for b one of the first k atoms of the cell, of the species of a
+--   IsFromAtom c time w a o n       so it is for b the atom number n of the cell, of the species of a
+--   IsFromAtoms c time w a k o      so it is for one of the first k atoms
 --   IsKeptBy c time w o             o is a symmetry operation of matrix w and of a wanted sign
---   IsFoundBelow c time ws k o      so it is for w one of the first k matrices of ws
-use Rattle.std.specs.Prelude.{◌≡◌, ℕ, ◌<◌, Bool, List, slice_get, Some}
+--   IsFoundAt c time ws o n         so it is for w the matrix number n of ws
+--   IsFoundBelow c time ws k o      so it is for one of the first k matrices
+use Rattle.std.specs.Prelude.{◌≡◌, ℕ, Bool, List, slice_get, Some}
+use Rattle.lists.specs.Any.{AnyBelow}
 use Rattle.crystal_spec.specs.declared.Sign.{Sign}
 use Rattle.crystal_spec.specs.Matrices.{Matrix, Triple, image, difference}
 use Rattle.crystal_spec.specs.Crystals.{Site, Structure, Keeps}
 use Rattle.crystal_spec.specs.Operations.{Operation, IsSymmetryOperation, sign_factor}
-use Rattle.crystal.specs.Carrying.{FoldsTo}
+use Rattle.positions.specs.Positions.{IsModulo}
 use Rattle.mag_ops.specs.Groups.{IsWanted}
 
 pub record IsKeptAs (c : Structure) (w : Matrix) (t : Triple) (sign : Sign) (o : Operation) : Type 0 where
@@ -21,26 +24,28 @@ pub record IsKeptAs (c : Structure) (w : Matrix) (t : Triple) (sign : Sign) (o :
 
 pub record IsOnto (c : Structure) (time : Bool) (w : Matrix) (from onto : Site) (o : Operation) : Type 0 where
   pub same_matrix : o.matrix ≡ w
-  pub translation : FoldsTo c.n (difference onto.position (image w from.position)) o.translation
+  pub translation : IsModulo c.n (difference onto.position (image w from.position)) o.translation
   pub wanted : IsWanted time o.sign
   pub keeps : Keeps c w o.translation (sign_factor o.sign)
 
-pub record IsFromAtoms (c : Structure) (time : Bool) (w : Matrix) (from : Site) (k : ℕ) (o : Operation) : Type 0 where
-  pub number : ℕ
-  pub below : number < k
+pub record IsFromAtom (c : Structure) (time : Bool) (w : Matrix) (from : Site) (o : Operation) (number : ℕ) : Type 0 where
   pub site : Site
   pub is_site : slice_get c.sites number ≡ Some site
   pub same_species : site.species ≡ from.species
   pub onto : IsOnto c time w from site o
+
+abbrev pub IsFromAtoms : Structure → Bool → Matrix → Site → ℕ → Operation → Type 0
+IsFromAtoms c time w from k o = AnyBelow k (IsFromAtom c time w from o)
 
 pub record IsKeptBy (c : Structure) (time : Bool) (w : Matrix) (o : Operation) : Type 0 where
   pub same_matrix : o.matrix ≡ w
   pub wanted : IsWanted time o.sign
   pub symmetry : IsSymmetryOperation c o
 
-pub record IsFoundBelow (c : Structure) (time : Bool) (ws : List Matrix) (k : ℕ) (o : Operation) : Type 0 where
-  pub number : ℕ
-  pub below : number < k
+pub record IsFoundAt (c : Structure) (time : Bool) (ws : List Matrix) (o : Operation) (number : ℕ) : Type 0 where
   pub is_matrix : slice_get ws number ≡ Some o.matrix
   pub wanted : IsWanted time o.sign
   pub symmetry : IsSymmetryOperation c o
+
+abbrev pub IsFoundBelow : Structure → Bool → List Matrix → ℕ → Operation → Type 0
+IsFoundBelow c time ws k o = AnyBelow k (IsFoundAt c time ws o)

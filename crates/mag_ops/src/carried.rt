@@ -3,45 +3,26 @@
 ghost use Rattle.std.specs.Prelude.{◌≡◌, ◌↔◌, ◌⊎◌, ◌^◌, ◌≤◌, pos, ◌+ℤ◌, map, OnOk, IfOk, IfSome, IfNone};
 ghost use Rattle.std.specs.Int.{int_rem_euclid};
 ghost use Rattle.ring.specs.Size.{AtMost};
+ghost use Rattle.lists.specs.Increasing.{IsMember};
 ghost use Rattle.crystal_spec.specs.Matrices.{Triple, Matrix, product, image, multiple, sum_of};
 ghost use Rattle.crystal_spec.specs.Crystals.{Structure};
-ghost use Rattle.crystal_spec.specs.Increasing.{IsMember};
 ghost use Rattle.crystal_spec.specs.Operations.{Operation, IsWithinCell, ListsAll, ListsAllSame};
 ghost use Rattle.crystal_spec.specs.Cells.{IsCell};
-ghost use Rattle.crystal.specs.Bounds.{EntriesAtMost, CoordinatesAtMost};
-ghost use Rattle.basis_spec.specs.Positions.{residue};
+ghost use Rattle.matrix3.specs.Bounds.{EntriesAtMost, CoordinatesAtMost};
+ghost use Rattle.positions.specs.Positions.{modulo, triple_of};
 ghost use Rattle.basis_spec.specs.Bases.{IsPrimitiveIn, cell_in_basis};
 ghost use Rattle.basis_spec.specs.Carrying.{IsCarried};
-ghost use Rattle.lattice_iso.specs.Columns.{of_columns};
-ghost use Rattle.op_group.specs.Views.{operation_of, translation_of};
+ghost use Rattle.matrix3.specs.Matrices.{of_columns};
+ghost use Rattle.op_group.specs.Views.{operation_of};
 ghost use Rattle.mag_ops.specs.Carried.{IsCarriedFrom, IsTranslated};
 
 use crystal::Sign;
-use exact_num::{Int, Residue};
+use exact_num::Int;
 use matrix3::{Mat3, Vec3};
 use op_group::{Op, OpList};
+use positions::{column, modulo};
 use prim_cell::Primitive;
 use std::alloc::{AllocError, Global};
-
-/// A natural number as an exact integer.
-fn whole(number: u32) -> Int
-    ensures value { result ≡ pos number }
-    ensures size { AtMost (2 ^ 32) result }
-{
-    Int::new(number as i128).unwrap()
-}
-
-/// A translation part as a column of integers.
-fn column(shift: [u32; 3]) -> Vec3<Int>
-    ensures value { result ≡ translation_of shift }
-    ensures size { CoordinatesAtMost (2 ^ 32) result }
-{
-    Vec3 {
-        x: whole(shift[0]),
-        y: whole(shift[1]),
-        z: whole(shift[2]),
-    }
-}
 
 /// The column divided by the index, or `None` where a quotient is no integer.
 fn divided(column: &Vec3<Int>, index: u32) -> Option<Vec3<Int>>
@@ -49,7 +30,7 @@ fn divided(column: &Vec3<Int>, index: u32) -> Option<Vec3<Int>>
     ensures found { IfSome result (λ v. column.now ≡ multiple (pos index) v) }
     ensures absent { IfNone result ((v : Triple) → ¬ (column.now ≡ multiple (pos index) v)) }
 {
-    let index = whole(index);
+    let index = Int::from(index);
     Some(Vec3 {
         x: column.x.div_exact(&index)?,
         y: column.y.div_exact(&index)?,
@@ -69,23 +50,6 @@ fn column_in_cell(prim: &Primitive, column: &Vec3<Int>) -> Option<Vec3<Int>>
     divided(&times_index, index)
 }
 
-/// The matrix of these columns.
-fn with_columns(a: &Vec3<Int>, b: &Vec3<Int>, c: &Vec3<Int>) -> Mat3<Int>
-    ensures { result ≡ of_columns a.now b.now c.now }
-{
-    Mat3 {
-        a11: a.x,
-        a12: b.x,
-        a13: c.x,
-        a21: a.y,
-        a22: b.y,
-        a23: c.y,
-        a31: a.z,
-        a32: b.z,
-        a33: c.z,
-    }
-}
-
 /// The matrix W with V Q = Q W, or `None` where its entries are no integers.
 fn matrix_in_cell(prim: &Primitive, v: &Mat3<Int>) -> Option<Mat3<Int>>
     requires { EntriesAtMost 1 v.now }
@@ -94,37 +58,12 @@ fn matrix_in_cell(prim: &Primitive, v: &Mat3<Int>) -> Option<Mat3<Int>>
 {
     let _index = prim.index();
     let turned = v.times(prim.back());
-    let first = Vec3 {
-        x: turned.a11,
-        y: turned.a21,
-        z: turned.a31,
-    };
-    let second = Vec3 {
-        x: turned.a12,
-        y: turned.a22,
-        z: turned.a32,
-    };
-    let third = Vec3 {
-        x: turned.a13,
-        y: turned.a23,
-        z: turned.a33,
-    };
-    Some(with_columns(
+    let (first, second, third) = turned.columns();
+    Some(Mat3::of_columns(
         &column_in_cell(prim, &first)?,
         &column_in_cell(prim, &second)?,
         &column_in_cell(prim, &third)?,
     ))
-}
-
-/// The sum of a coordinate and one of a translation, modulo n.
-fn sum_modulo(coordinate: Int, shift: u32, n: u32) -> u32
-    requires size { AtMost (10 ^ 26) coordinate }
-    requires at_least { 1 ≤ n }
-    requires at_most { n ≤ 10 ^ 6 }
-    ensures { pos result ≡ int_rem_euclid (coordinate +ℤ pos shift) (pos n) }
-{
-    let sum = coordinate + whole(shift);
-    Residue::new(sum.get(), n).get()
 }
 
 /// The sum of a column and a translation part, modulo n.
@@ -132,13 +71,9 @@ fn moved(start: &Vec3<Int>, shift: [u32; 3], n: u32) -> [u32; 3]
     requires size { CoordinatesAtMost (10 ^ 26) start.now }
     requires at_least { 1 ≤ n }
     requires at_most { n ≤ 10 ^ 6 }
-    ensures { translation_of result ≡ residue n (sum_of start.now (translation_of shift)) }
+    ensures { triple_of result ≡ modulo n (sum_of start.now (triple_of shift)) }
 {
-    [
-        sum_modulo(start.x, shift[0], n),
-        sum_modulo(start.y, shift[1], n),
-        sum_modulo(start.z, shift[2], n),
-    ]
+    modulo(&start.plus(&column(shift)), n)
 }
 
 /// Adds the operations of a matrix and a time sign whose translation parts are a column and a pure translation, modulo n.
@@ -166,7 +101,7 @@ fn add_translated(
 /// Adds the operations of the cell that Q takes to this one of the primitive cell.
 fn add_carried(prim: &Primitive, op: &Op, found: &mut Vec<Op>) -> Result<(), AllocError>
     requires small { EntriesAtMost 1 op.now.w }
-    requires below_n { IsWithinCell prim.now.cell.n (translation_of op.now.shift) }
+    requires below_n { IsWithinCell prim.now.cell.n (triple_of op.now.shift) }
     ensures { OnOk result ((o : Operation) → IsMember o (map operation_of found.new.items) ↔ (IsCarriedFrom prim.now.cell.n prim.now.back (operation_of op.now) o ⊎ IsMember o (map operation_of found.old.items))) }
 {
     let _form = prim.cell().count();

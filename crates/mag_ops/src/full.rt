@@ -1,12 +1,13 @@
 // The operations of a primitive cell.
 
 ghost use Rattle.std.specs.Prelude.{◌≡◌, ◌↔◌, ◌⊎◌, ◌+◌, ◌*◌, ◌≤◌, ℕ, List, length, OnOk, IfOk};
+ghost use Rattle.lists.specs.Increasing.{IsMember};
 ghost use Rattle.crystal_spec.specs.declared.Sign.{Sign};
-ghost use Rattle.crystal_spec.specs.Increasing.{IsMember};
 ghost use Rattle.crystal_spec.specs.Matrices.{Matrix, Triple};
 ghost use Rattle.crystal_spec.specs.Operations.{Operation, IsWithinCell, sign_factor};
-ghost use Rattle.crystal.specs.Views.{site_of, triple_of};
-ghost use Rattle.crystal.specs.Bounds.{EntriesAtMost};
+ghost use Rattle.crystal.specs.Views.{site_of};
+ghost use Rattle.positions.specs.Positions.{triple_of};
+ghost use Rattle.matrix3.specs.Bounds.{EntriesAtMost};
 ghost use Rattle.crystal.specs.Actions.{ActsOn};
 ghost use Rattle.lattice_iso.specs.Isometries.{ListsIsometries};
 ghost use Rattle.basis_spec.specs.Translations.{of_species, IsRarest};
@@ -43,7 +44,7 @@ fn add_kept<L: Ledger>(
 {
     steps.tick();
     if places.are_kept_by(action, shift, sign, last) {
-        let w = action.matrix();
+        let w = *action.matrix();
         found.insert(Op { w, shift, sign })?;
     }
     Ok(())
@@ -69,6 +70,7 @@ fn add_kept_onto<L: Ledger>(
     ensures ticks_at_most { steps.new ≤ steps.old + signs time }
     ensures ticks_at_least { OnOk result (length found.new.operations + steps.old ≤ length found.old.operations + steps.new) }
 {
+    let _form = places.cell().count();
     let shift = action.translation_onto(from.place, onto.place);
     add_kept(places, action, shift, Sign::Same, found, last, steps)?;
     if !time {

@@ -1,7 +1,7 @@
 // Atoms of a rarest species.
 
 ghost use Rattle.std.specs.Prelude.{◌≡◌, length};
-ghost use Rattle.crystal_spec.specs.Increasing.{IsMember};
+ghost use Rattle.lists.specs.Increasing.{IsMember};
 ghost use Rattle.crystal.specs.Views.{site_of};
 ghost use Rattle.basis_spec.specs.Translations.{of_species, IsRarest};
 

@@ -2,17 +2,18 @@
 --
 -- Two operations of a list with one pair (W, w) differ in the time sign alone. So each pair has one operation that is the
 -- first with it, +1 before -1, and there are as many pairs as first operations.
-use Rattle.std.proofs.Common.{◌≡◌, ℕ, zero, suc, ◌+◌, ◌<◌, ◌≤◌, List, [], ◌∷◌, map, drop, length, get_or, cond, add-one, count_by, refl, sym, ap, subst, ◌∙◌, ◌⊎◌, inl, inr, arith}
+use Rattle.std.proofs.Common.{◌≡◌, ℕ, ◌+◌, ◌<◌, ◌≤◌, List, [], ◌∷◌, map, drop, length, get_or, cond, count_by, refl, sym, ap, subst, ◌∙◌, ◌⊎◌, inl, inr, arith}
 use Rattle.std.specs.Prelude.{◌↔◌}
 use Rattle.std.specs.declared.cmp.Ordering.{Ordering}
 use Rattle.std.specs.declared.cmp.Ordering.TheVariants.{Less, Equal, Greater}
 use Rattle.std.proofs.lemmas.Cmp.{tied_itself}
 use Rattle.std.proofs.lemmas.List.{drop-map, drop_all}
 use Rattle.std.proofs.lemmas.List.Recursion.{is_count_by}
-use Rattle.std.proofs.Math.Seq.{drop-cons}
+use Rattle.lists.specs.Increasing.{IsMember, IsDistinct}
+use Rattle.lists.proofs.Walks.{drop_read}
+use Rattle.lists.proofs.Distinct.{IsDistinct-drop}
 use Rattle.crystal_spec.specs.declared.Sign.{Sign}
 use Rattle.crystal_spec.specs.declared.Sign.TheVariants.{Same, Reversed}
-use Rattle.crystal_spec.specs.Increasing.{IsMember, IsDistinct}
 use Rattle.crystal_spec.specs.Operations.{Operation, compare_of}
 use Rattle.crystal_spec.proofs.Ordered.{compare_total, compare_exact}
 use Rattle.op_group.specs.declared.operation.Op.{Op}
@@ -148,15 +149,6 @@ family_number os k n =
 
 -- ---- one pass over the operations
 
--- what is left of a list from one of its operations on
-pub drop_item : (ops : List Op) (i : ℕ) (o : Op) → i < length ops → o ≡ get_or ops i o → drop i ops ≡ o ∷ drop (i + 1) ops
-drop_item ops i o h e = drop-cons ops i o h ∙ ap (λ (x : Op). x ∷ drop (suc i) ops) (sym e) ∙ ap (λ (k : ℕ). o ∷ drop k ops) (sym (add-one i))
-
-distinct_drop : {X : Type 0} (i : ℕ) (xs : List X) → IsDistinct xs → IsDistinct (drop i xs)
-distinct_drop zero xs d = d
-distinct_drop (suc i) [] d = tt
-distinct_drop (suc i) (x ∷ xs) d = distinct_drop i xs d.1
-
 -- with the first operations that are still to come, those counted are all of the list
 abbrev pub AreCounted : List Operation → List Op → ℕ → ℕ → Type 0
 AreCounted os ops i count = (k : ℕ) → IsNumberOf (IsAmong (IsFirstOfPair os) (map operation_of (drop i ops))) k → IsNumberOf (IsAmong (IsFirstOfPair os) os) (count + k)
@@ -168,10 +160,10 @@ counted_none os ops e k n =
 
 module _ (os : List Operation) (ops : List Op) (i count : ℕ) (o : Op) (e : map operation_of ops ≡ os) (d : IsDistinct os) (h : i < length ops) (is : o ≡ get_or ops i o) (counted : AreCounted os ops i count) where
   left : map operation_of (drop i ops) ≡ operation_of o ∷ map operation_of (drop (i + 1) ops)
-  left = ap (λ (xs : List Op). map operation_of xs) (drop_item ops i o h is)
+  left = ap (λ (xs : List Op). map operation_of xs) (drop_read ops i o h is)
 
   new : IsMember (operation_of o) (map operation_of (drop (i + 1) ops)) → ⊥
-  new = (subst IsDistinct left (subst IsDistinct (drop-map operation_of i ops) (distinct_drop i (map operation_of ops) (subst IsDistinct (sym e) d)))).0
+  new = (subst IsDistinct left (subst IsDistinct (drop-map operation_of i ops) (IsDistinct-drop i (map operation_of ops) (subst IsDistinct (sym e) d)))).0
 
   -- a first operation is counted
   pub counted_more : IsFirstOfPair os (operation_of o) → AreCounted os ops (i + 1) (count + 1)

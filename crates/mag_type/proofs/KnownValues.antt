@@ -2,12 +2,12 @@
 -- the inversion with time reversal, and with n = 2 half a cell along c with time reversal.
 use Rattle.std.proofs.Common.{◌≡◌, [], ◌∷◌, refl, sym, ap, subst, inl, inr}
 use Rattle.std.specs.Prelude.{pos, negsuc}
+use Rattle.lists.specs.Increasing.{IsMember}
 use Rattle.crystal_spec.specs.declared.Sign.{Sign}
 use Rattle.crystal_spec.specs.declared.Sign.TheVariants.{Same, Reversed}
 use Rattle.crystal_spec.specs.Matrices.{Triple, identity}
-use Rattle.crystal_spec.specs.Increasing.{IsMember}
 use Rattle.crystal_spec.specs.Operations.{Operation}
-use Rattle.basis_spec.specs.Positions.{origin, triple}
+use Rattle.positions.specs.Positions.{origin, triple}
 use Rattle.op_group.specs.Composition.{identity_operation}
 use Rattle.mag_type.specs.Families.{SpaceOperation, IsInFamily, IsNumberOf}
 use Rattle.mag_type.specs.MagneticTypes.{anti_translation, time_reversal, IsMagneticType, one, two, three, four}

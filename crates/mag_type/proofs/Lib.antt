@@ -1,7 +1,6 @@
 pub mod Numbers
-pub mod FamilyOrders
-pub mod TypesFound
+mod FamilyOrders
+mod TypesFound
 pub mod OneType
 pub mod AllOperations
-pub mod PairGroups
 mod KnownValues

@@ -3,9 +3,10 @@
 use Rattle.std.proofs.Common.{◌≡◌, ℕ, ◌+◌, ◌≤◌, List, [], ◌∷◌, map, length, refl, sym, subst, ◌∙◌, ◌⊎◌, inl, inr, arith}
 use Rattle.std.specs.Prelude.{◌↔◌}
 use Rattle.std.proofs.lemmas.List.{length-map}
-use Rattle.crystal_spec.specs.Increasing.{IsMember}
-use Rattle.basis_spec.proofs.Counting.{length_le, mapped_once}
-use Rattle.basis_spec.proofs.FirstAtoms.{mapped_from, mapped_member}
+use Rattle.lists.specs.Increasing.{IsMember}
+use Rattle.lists.proofs.Distinct.{IsDistinct-mapped}
+use Rattle.lists.proofs.Counting.{length_le}
+use Rattle.lists.proofs.Members.{mapped_from, mapped_member}
 use Rattle.mag_type.specs.Families.{IsNumberOf}
 
 -- two lists of the same things, each once, are of one length
@@ -80,7 +81,7 @@ pub record IsTold {X Y : Type 0} (f : X → Y) (P : X → Type 0) (y : Y) : Type
 pub number_told : {X Y : Type 0} (f : X → Y) (P : X → Type 0) (k : ℕ) → ((x z : X) → P x → P z → f x ≡ f z → x ≡ z) → IsNumberOf P k → IsNumberOf (IsTold f P) k
 number_told {X} {Y} f P k one n = record {
   all = map f n.all;
-  once = mapped_once f n.all n.once (λ x z l m e. one x z ((n.exact x).0 l) ((n.exact z).0 m) e);
+  once = IsDistinct-mapped f n.all n.once (λ x z l m e. one x z ((n.exact x).0 l) ((n.exact z).0 m) e);
   exact = λ y. (forth y, back y);
   count = length-map n.all f ∙ n.count;
 }

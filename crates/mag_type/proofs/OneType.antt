@@ -5,15 +5,15 @@
 use Rattle.std.proofs.Common.{◌≡◌, ℕ, List, [], ◌∷◌, ◌++◌, refl, sym, ◌∙◌}
 use Rattle.std.specs.Prelude.{pos}
 use Rattle.ring.specs.Ring.{Expr, quoted, var, con}
+use Rattle.lists.specs.Increasing.{IsMember}
 use Rattle.matrix3.specs.declared.vector.Vec3.{Vec3}
 use Rattle.matrix3.specs.Matrices.{coordinates, vector_of_variables}
 use Rattle.matrix3.specs.Matrices as formulas
 use Rattle.crystal_spec.specs.Matrices.{Triple, multiple, sum_of, identity}
 use Rattle.crystal_spec.specs.Crystals.{position_after}
-use Rattle.crystal_spec.specs.Increasing.{IsMember}
 use Rattle.crystal_spec.specs.Operations.{Operation}
 use Rattle.crystal_spec.proofs.Identities.{by_triples}
-use Rattle.basis_spec.specs.Positions.{origin}
+use Rattle.positions.specs.Positions.{origin}
 use Rattle.basis_spec.specs.Translations.{pure_translation}
 use Rattle.op_group.specs.Composition.{IsComposed}
 use Rattle.op_group.specs.Groups.{IsGroupModulo}

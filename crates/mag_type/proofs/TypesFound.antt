@@ -1,19 +1,21 @@
 -- The type of a list, from what is found by passes over it: whether each operation has the sign +1, and whether one is
 -- (I, t, -1).
-use Rattle.std.proofs.Common.{◌≡◌, sym, ap, subst, ◌∙◌, inl, inr, ◌⊎◌, ℕ, zero, suc, ◌+◌, ◌<◌, ◌≤◌, List, [], ◌∷◌, map, drop, length, get_or, true, arith}
+use Rattle.std.proofs.Common.{◌≡◌, sym, ap, subst, ◌∙◌, inl, inr, ◌⊎◌, ℕ, ◌+◌, ◌<◌, ◌≤◌, List, [], ◌∷◌, map, drop, length, get_or, true}
 use Rattle.std.specs.Prelude.{Bool, false, ◌&&◌}
 use Rattle.std.specs.List.{list_all}
 use Rattle.std.proofs.lemmas.List.{drop_all}
+use Rattle.lists.specs.Increasing.{IsMember}
+use Rattle.lists.proofs.Walks.{drop_read}
+use Rattle.lists.proofs.Members.{mapped_read}
 use Rattle.crystal_spec.specs.declared.Sign.{Sign}
 use Rattle.crystal_spec.specs.declared.Sign.TheVariants.{Same, Reversed}
-use Rattle.crystal_spec.specs.Increasing.{IsMember}
 use Rattle.crystal_spec.specs.Matrices.{Triple}
 use Rattle.crystal_spec.specs.Operations.{Operation}
 use Rattle.op_group.specs.declared.operation.Op.{Op}
-use Rattle.op_group.specs.Views.{operation_of, translation_of}
+use Rattle.op_group.specs.Views.{operation_of}
+use Rattle.positions.specs.Positions.{triple_of}
 use Rattle.mag_type.specs.MagneticTypes.{anti_translation, HasAntiTranslation, IsTypeOne, IsTypeTwo, IsTypeThree, IsTypeFour}
 use Rattle.mag_type.specs.Counting.{is_same}
-use Rattle.mag_type.proofs.FamilyOrders.{drop_item}
 
 -- where one is still to come after this operation, or it is one, there is one from here on
 later : (o : Operation) (os : List Operation) → (o ≡ anti_translation o.translation → ⊥) → HasAntiTranslation (o ∷ os) → HasAntiTranslation os
@@ -27,24 +29,18 @@ later o os other h = by h.of_list
 abbrev pub IsToCome : List Op → ℕ → Type 0
 IsToCome ops i = HasAntiTranslation (map operation_of ops) → HasAntiTranslation (map operation_of (drop i ops))
 
-pub to_come_later : (ops : List Op) (i : ℕ) (o : Op) → i < length ops → o ≡ get_or ops i o → (operation_of o ≡ anti_translation (translation_of o.shift) → ⊥) → IsToCome ops i → IsToCome ops (i + 1)
+pub to_come_later : (ops : List Op) (i : ℕ) (o : Op) → i < length ops → o ≡ get_or ops i o → (operation_of o ≡ anti_translation (triple_of o.shift) → ⊥) → IsToCome ops i → IsToCome ops (i + 1)
 to_come_later ops i o h is other come has =
     later (operation_of o) (map operation_of (drop (i + 1) ops)) other
-    (subst (λ (xs : List Op). HasAntiTranslation (map operation_of xs)) (drop_item ops i o h is) (come has))
+    (subst (λ (xs : List Op). HasAntiTranslation (map operation_of xs)) (drop_read ops i o h is) (come has))
 
 pub none_to_come : (ops : List Op) (i : ℕ) → length ops ≤ i → IsToCome ops i → HasAntiTranslation (map operation_of ops) → ⊥
 none_to_come ops i h come has = (subst (λ (xs : List Op). HasAntiTranslation (map operation_of xs)) (drop_all i ops h) (come has)).of_list
 
--- an operation of a list
-item_member : (ops : List Op) (i : ℕ) (o : Op) → i < length ops → o ≡ get_or ops i o → IsMember (operation_of o) (map operation_of ops)
-item_member [] i o h e = absurd (omega (arith, h))
-item_member (p ∷ ops) zero o h e = inl (ap operation_of e)
-item_member (p ∷ ops) (suc i) o h e = inr (item_member ops i o (omega (arith, h)) e)
-
-pub has_item : (ops : List Op) (i : ℕ) (o : Op) → i < length ops → o ≡ get_or ops i o → operation_of o ≡ anti_translation (translation_of o.shift) → HasAntiTranslation (map operation_of ops)
+pub has_item : (ops : List Op) (i : ℕ) (o : Op) → i < length ops → o ≡ get_or ops i o → operation_of o ≡ anti_translation (triple_of o.shift) → HasAntiTranslation (map operation_of ops)
 has_item ops i o h is e = record {
-  translation = translation_of o.shift;
-  of_list = subst (λ (x : Operation). IsMember x (map operation_of ops)) e (item_member ops i o h is);
+  translation = triple_of o.shift;
+  of_list = subst (λ (x : Operation). IsMember x (map operation_of ops)) e (mapped_read operation_of ops i o h is);
 }
 
 -- ---- time signs

@@ -3,9 +3,9 @@
 --   unprimed o           the operation of the matrix and translation part of o that does not reverse time
 --   IsFirstOfPair os o   no operation of the list with the pair of o comes before o: +1 comes before -1
 use Rattle.std.specs.Prelude.{◌≡◌, Bool, true, false, List}
+use Rattle.lists.specs.Increasing.{IsMember}
 use Rattle.crystal_spec.specs.declared.Sign.{Sign}
 use Rattle.crystal_spec.specs.declared.Sign.TheVariants.{Same, Reversed}
-use Rattle.crystal_spec.specs.Increasing.{IsMember}
 use Rattle.crystal_spec.specs.Operations.{Operation}
 
 -- whether the time sign is +1

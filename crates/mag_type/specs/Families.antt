@@ -5,10 +5,10 @@
 --   IsUnprimed os o     o is in the maximal space subgroup of the list: an operation of the list that does not reverse time
 --   IsNumberOf holds k  so many things hold: a list with exactly these, each once, has the length k
 use Rattle.std.specs.Prelude.{◌≡◌, ◌↔◌, ℕ, List, length}
+use Rattle.lists.specs.Increasing.{IsMember, IsDistinct}
 use Rattle.crystal_spec.specs.declared.Sign.{Sign}
 use Rattle.crystal_spec.specs.declared.Sign.TheVariants.{Same}
 use Rattle.crystal_spec.specs.Matrices.{Triple, Matrix}
-use Rattle.crystal_spec.specs.Increasing.{IsMember, IsDistinct}
 use Rattle.crystal_spec.specs.Operations.{Operation}
 
 -- an operation but for its time sign

@@ -10,11 +10,11 @@
 --   IsTypeFour os               time reversal with a translation other than 0 is an operation
 --   IsMagneticType os k         the list is of type k
 use Rattle.std.specs.Prelude.{◌≡◌, ◌≢◌, ℕ, List}
+use Rattle.lists.specs.Increasing.{IsMember}
 use Rattle.crystal_spec.specs.declared.Sign.TheVariants.{Same, Reversed}
 use Rattle.crystal_spec.specs.Matrices.{Triple, identity}
-use Rattle.crystal_spec.specs.Increasing.{IsMember}
 use Rattle.crystal_spec.specs.Operations.{Operation}
-use Rattle.basis_spec.specs.Positions.{origin}
+use Rattle.positions.specs.Positions.{origin}
 use Rattle.basis_spec.specs.Translations.{pure_translation}
 
 -- (I, t, +1) is an operation of the list for t = 0 alone

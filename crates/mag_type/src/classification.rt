@@ -3,7 +3,8 @@
 ghost use Rattle.std.specs.Prelude.{◌≡◌, ◌↔◌, ℕ, map, count_by, IsTrue};
 ghost use Rattle.std.specs.List.{list_all};
 ghost use Rattle.crystal_spec.specs.Matrices.{identity as identity_matrix};
-ghost use Rattle.op_group.specs.Views.{operation_of, translation_of};
+ghost use Rattle.op_group.specs.Views.{operation_of};
+ghost use Rattle.positions.specs.Positions.{triple_of};
 ghost use Rattle.op_group.specs.Groups.{IsGroupModulo};
 ghost use Rattle.mag_type.specs.Families.{IsInFamily, IsUnprimed, IsNumberOf};
 ghost use Rattle.mag_type.specs.MagneticTypes.{HasOnlyZeroTranslation, anti_translation, time_reversal, HasAntiTranslation, IsMagneticType};
@@ -25,31 +26,12 @@ pub struct Kind {
     pub unprimed: u64,
 }
 
-/// The identity matrix.
-pub(crate) fn identity() -> Mat3<Int>
-    ensures { result ≡ identity_matrix }
-{
-    let zero = Int::new(0).unwrap();
-    let one = Int::new(1).unwrap();
-    Mat3 {
-        a11: one,
-        a12: zero,
-        a13: zero,
-        a21: zero,
-        a22: one,
-        a23: zero,
-        a31: zero,
-        a32: zero,
-        a33: one,
-    }
-}
-
 /// The operation (I, 0, -1).
 fn time_reversal() -> Op
     ensures { operation_of result ≡ time_reversal }
 {
     Op {
-        w: identity(),
+        w: Mat3::identity(),
         shift: [0, 0, 0],
         sign: Sign::Reversed,
     }
@@ -57,10 +39,10 @@ fn time_reversal() -> Op
 
 /// Whether the operation is (I, t, -1).
 fn is_anti_translation(op: &Op) -> bool
-    ensures { IsTrue result ↔ (operation_of op.now ≡ anti_translation (translation_of op.now.shift)) }
+    ensures { IsTrue result ↔ (operation_of op.now ≡ anti_translation (triple_of op.now.shift)) }
 {
     let op = *op;
-    op.w == identity() && op.sign == Sign::Reversed
+    op.w == Mat3::identity() && op.sign == Sign::Reversed
 }
 
 /// Whether one of the operations is (I, t, -1).

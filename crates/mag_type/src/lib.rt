@@ -9,6 +9,3 @@
 mod classification;
 
 pub use classification::{Kind, classify};
-
-#[cfg(test)]
-mod tests;

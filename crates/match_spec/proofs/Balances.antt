@@ -1,25 +1,25 @@
 -- Pairs exist where a map carries, and the balance does not depend on how they are taken.
-use Rattle.std.proofs.Common.{◌*ℤ◌, ◌≡◌, ℕ, suc, ℤ, pos, ◌<ℤ◌, ◌≤◌, List, [], ◌∷◌, ◌++◌, map, length, refl, sym, ◌∙◌, ap, ap₂, subst, arith}
+use Rattle.std.proofs.Common.{◌*ℤ◌, ◌≡◌, ℕ, ℤ, pos, ◌<ℤ◌, ◌≤◌, List, [], ◌∷◌, ◌++◌, map, length, refl, sym, ◌∙◌, ap, ap₂, subst, arith}
+use Rattle.lists.specs.Increasing.{IsMember}
+use Rattle.lists.proofs.Matching.{total_matched}
+use Rattle.lists.proofs.Counting.{into_le}
 use Rattle.matrix3.specs.Matrices as formulas
 use Rattle.ring.specs.Ring.{int_ops, var, con, quoted, ◌:*◌}
-use Rattle.matrix3.specs.Matrices.{coordinates, vector_of_variables}
+use Rattle.matrix3.specs.Matrices.{coordinates, vector_of_variables, matrix_sum}
 use Rattle.crystal_spec.specs.declared.Sign.TheVariants.{Same}
 use Rattle.crystal_spec.specs.Matrices.{Triple, Matrix, image, determinant, multiple, sum_of, difference}
-use Rattle.crystal_spec.specs.Increasing.{IsMember}
 use Rattle.crystal_spec.specs.Operations.{Operation}
 use Rattle.crystal_spec.proofs.Identities.{by_integers, by_triples}
 use Rattle.match_spec.specs.Points.{Point, point, IsPoint, IsInCell, IsWhole, SameModuloOne}
 use Rattle.match_spec.specs.Maps.{Carries, Pair, matrix_of, IsPair, IsPairs, IsMatrices, balance}
 use Rattle.match_spec.proofs.Groups.{IsGroup, IsPrimitive, each_of}
-use Rattle.match_spec.proofs.Laws.{matrix_sum}
-use Rattle.match_spec.proofs.Sums.{total_matched}
 use Rattle.match_spec.proofs.Wholes.{whole_is, whole_minus}
 use Rattle.match_spec.proofs.Units.{same_from}
 use Rattle.match_spec.proofs.Absorb.{zero3, sum_laws, sum3}
 use Rattle.ring.proofs.IntOrder.{mul_pos}
+use Rattle.std.proofs.lemmas.List.{length-map}
 use Rattle.match_spec.proofs.Moves.{lit_pos}
 use Rattle.match_spec.proofs.Origins.{balance_units, in_balance, pair_whole, sum_whole, each_map}
-use Rattle.match_spec.proofs.Pigeon.{no_longer}
 use Rattle.match_spec.proofs.Candidates.{IsReduced}
 use Rattle.match_spec.proofs.Homs.{scale_of}
 
@@ -41,14 +41,10 @@ same_sum m ms ns a b =
 
 same_length : (m : List Operation) (ms ns : List Matrix) → IsMatrices m ms → IsMatrices m ns → length ms ≤ length ns
 same_length m ms ns a b =
-    no_longer (λ x y. x ≡ y) ms ns a.distinct (record {
+    into_le (λ x y. x ≡ y) ms ns a.distinct (record {
       right = λ v h. (let p = a.matrices v h in (v, (subst (λ w. IsMember w ns) p.1.1 (b.all p.0 p.1.0), refl)));
       one_left = λ x w y hx hw d e. d ∙ sym e;
     })
-
-length-map : (cs : List Pair) → length (map matrix_of cs) ≡ length cs
-length-map [] = refl
-length-map (c ∷ cs) = ap (λ (l : ℕ). suc l) (length-map cs)
 
 -- wherever some triple carries, the balance is defined modulo 1
 pub same_balance : (q : Matrix) (p : Point) (h : List Operation) (n : ℤ) (m : List Operation) (cs bs : List Pair) → (determinant q ≡ pos 0 → ⊥) → pos 0 <ℤ n → IsGroup n m → IsPrimitive n m → IsPairs q h m cs → IsPairs q h m bs → IsPoint p → Carries q p h n m → SameModuloOne (balance q n cs) (balance q n bs)
@@ -58,7 +54,7 @@ same_balance q p h n m cs bs nz pn gm pr a b tp ca =
     let two = sum_whole s.d s.t s.e q s.u bs (each_map _ _ (pair_whole s.d s.t s.e n q p s.u h m nz s.by_twelve s.by_n pn tp s.is gm pr ca) bs (each_of _ bs b.each)) in
     let le : length (map matrix_of cs) ≤ length (map matrix_of bs) = same_length m _ _ a.matrices b.matrices in
     let ge : length (map matrix_of bs) ≤ length (map matrix_of cs) = same_length m _ _ b.matrices a.matrices in
-    let count : length cs ≡ length bs = omega (arith, le, ge, length-map cs, length-map bs) in
+    let count : length cs ≡ length bs = omega (arith, le, ge, length-map cs matrix_of, length-map bs matrix_of) in
     same_from s.d (balance q n cs) (balance q n bs) (balance_units q s.t s.e cs) (balance_units q s.t s.e bs) s.d_pos (in_balance s.d s.t s.e n q s.by_twelve s.by_n cs) (in_balance s.d s.t s.e n q s.by_twelve s.by_n bs) (whole_is s.d _ _ (regroup (multiple (pos (length bs)) s.u) (image (sum3 (map matrix_of bs)) s.u) (balance_units q s.t s.e cs) (balance_units q s.t s.e bs)) (whole_minus s.d _ _ two (whole_is s.d _ _ (ap₂ (λ (k : ℕ) v. difference (difference (multiple (pos k) s.u) (image v s.u)) (balance_units q s.t s.e cs)) (sym count) (sym (same_sum m _ _ a.matrices b.matrices))) one)))
   where
     regroup : (x y c b : Triple) → difference c b ≡ difference (difference (difference x y) b) (difference (difference x y) c)

@@ -9,7 +9,7 @@ use Rattle.crystal_spec.specs.Operations.{Operation}
 use Rattle.crystal_spec.proofs.Identities.{by_integers, by_triples}
 use Rattle.crystal_spec.proofs.Isometries.{determinant-product}
 use Rattle.crystal_spec.proofs.Entrywise.{triple_same}
-use Rattle.basis_spec.specs.Positions.{triple}
+use Rattle.positions.specs.Positions.{triple}
 use Rattle.op_group.specs.Groups.{IsGroupModulo}
 use Rattle.mag_type.specs.MagneticTypes.{HasOnlyZeroTranslation}
 use Rattle.match_spec.specs.Points.{point}

@@ -4,7 +4,7 @@ use Rattle.crystal_spec.specs.declared.Sign.{Sign}
 use Rattle.crystal_spec.specs.declared.Sign.TheVariants.{Same, Reversed}
 use Rattle.crystal_spec.specs.Matrices.{Triple, Matrix, identity}
 use Rattle.crystal_spec.specs.Operations.{Operation}
-use Rattle.basis_spec.specs.Positions.{triple, origin}
+use Rattle.positions.specs.Positions.{triple, origin}
 use Rattle.match_spec.specs.Points.{point, SameModuloOne, Equal}
 use Rattle.match_spec.specs.Fractions.{point_of}
 use Rattle.match_spec.specs.Maps.{image_shift, IsImage, Pair, balance, IsBalanced}

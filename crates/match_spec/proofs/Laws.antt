@@ -6,27 +6,13 @@ use Rattle.ring.proofs.Solving.{by_ring}
 use Rattle.ring.proofs.IntRing.{int_laws}
 use Rattle.matrix3.specs.declared.vector.Vec3.{Vec3}
 use Rattle.matrix3.specs.declared.matrix.Mat3.{Mat3}
-use Rattle.matrix3.specs.Matrices.{entries, matrix_of_variables, scalar, matrix_map}
+use Rattle.matrix3.specs.Matrices.{entries, matrix_of_variables, scalar, matrix_map, matrix_sum}
 use Rattle.matrix3.specs.Matrices as formulas
 use Rattle.matrix3.proofs.MatrixLaws.{by_ring_matrix}
 use Rattle.crystal_spec.specs.Matrices.{Matrix, product, determinant, adjugate}
 
 module _ {R : Type 0} (o : Ops R) where
   open o use {◌⊕◌, ◌⊗◌, int}
-
-  -- the sum of two matrices
-  abbrev pub matrix_sum : Mat3 R → Mat3 R → Mat3 R
-  matrix_sum a b = record {
-    a11 = a.a11 ⊕ b.a11;
-    a12 = a.a12 ⊕ b.a12;
-    a13 = a.a13 ⊕ b.a13;
-    a21 = a.a21 ⊕ b.a21;
-    a22 = a.a22 ⊕ b.a22;
-    a23 = a.a23 ⊕ b.a23;
-    a31 = a.a31 ⊕ b.a31;
-    a32 = a.a32 ⊕ b.a32;
-    a33 = a.a33 ⊕ b.a33;
-  }
 
   -- k times a matrix
   abbrev pub matrix_scaled : R → Mat3 R → Mat3 R

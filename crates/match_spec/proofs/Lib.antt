@@ -1,23 +1,21 @@
-pub mod Laws
-pub mod Groups
-pub mod Sums
+mod Laws
+mod Groups
 pub mod Wholes
-pub mod Units
-pub mod Absorb
-pub mod Members
+mod Units
+mod Absorb
+mod Members
 pub mod Moves
 pub mod Origins
-pub mod Pigeon
-pub mod Candidates
-pub mod Homs
-pub mod Firsts
-pub mod Balances
-pub mod Reps
+mod Candidates
+mod Homs
+mod Firsts
+mod Balances
+mod Reps
 pub mod Conjugate
 pub mod Invariants
 pub mod Counts
 pub mod Bridge
-pub mod Decide
+mod Decide
 pub mod ListedGroups
 pub mod Search
 pub mod Transport

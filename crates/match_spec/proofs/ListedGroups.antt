@@ -4,25 +4,25 @@ use Rattle.std.proofs.lemmas.Int.{ints}
 use Rattle.ring.specs.Ring.{var, con, quoted, ◌:+◌, ◌:*◌, ◌:-◌}
 use Rattle.ring.specs.Size.{AtMost}
 use Rattle.ring.proofs.IntOrder.{mul_pos, mul_nonneg, le_by}
+use Rattle.lists.specs.Increasing.{IsMember}
 use Rattle.matrix3.specs.Matrices.{coordinates, entries, vector_of_variables, matrix_of_variables, EachEntry}
 use Rattle.matrix3.specs.Matrices as formulas
 use Rattle.crystal_spec.specs.declared.Sign.{Sign}
 use Rattle.crystal_spec.specs.declared.Sign.TheVariants.{Same, Reversed}
 use Rattle.crystal_spec.specs.Matrices.{Triple, Matrix, product, image, determinant, identity, multiple, sum_of, difference}
-use Rattle.crystal_spec.specs.Increasing.{IsMember}
 use Rattle.crystal_spec.specs.Operations.{Operation, sign_factor}
 use Rattle.crystal_spec.proofs.Identities.{by_integers, by_triples, by_matrices}
 use Rattle.crystal_spec.specs.Cells.{DiffersByCells}
-use Rattle.basis_spec.specs.Positions.{origin, residue}
+use Rattle.positions.specs.Positions.{origin, modulo, IsModulo}
 use Rattle.basis_spec.specs.Translations.{pure_translation}
 use Rattle.basis_spec.specs.StepBases.{InLattice, IsClosed, IsSteps}
 use Rattle.basis_spec.specs.Bases.{IsBack}
-use Rattle.basis_spec.proofs.Residues.{residue_away, residue_within}
+use Rattle.positions.proofs.Residues.{modulo_away, modulo_within}
 use Rattle.basis_spec.proofs.PureTranslations.{translations_same}
 use Rattle.basis_spec.proofs.StepLists.{list_lattice}
 use Rattle.basis_spec.proofs.StepIndex.{step_back}
 use Rattle.basis_spec.proofs.StepEntries.{found_is, back_entries}
-use Rattle.op_group.specs.Composition.{ReducesTo, IsComposed, identity_operation}
+use Rattle.op_group.specs.Composition.{IsComposed, identity_operation}
 use Rattle.op_group.specs.Groups.{IsGroupModulo}
 use Rattle.mag_type.specs.MagneticTypes.{HasOnlyZeroTranslation}
 use Rattle.match_spec.specs.Points.{IsWhole}
@@ -38,7 +38,7 @@ use Rattle.match_spec.proofs.Homs.{TakesPure}
 pub some_cells : (n : ℕ) (os : List Operation) → IsGroupModulo n os → pos 0 <ℤ pos n
 some_cells n os g = (g.within_cell identity_operation g.identity).x.1
 
-reduced_whole : (n : ℕ) (p q : Triple) → ReducesTo n p q → IsWhole (pos n) (difference p q)
+reduced_whole : (n : ℕ) (p q : Triple) → IsModulo n p q → IsWhole (pos n) (difference p q)
 reduced_whole n p q h = record { quotient = h.cells; is = ap (λ v. difference v q) h.same ∙ off q (multiple (pos n) h.cells) }
   where
     off : (q c : Triple) → difference (sum_of q c) q ≡ c
@@ -116,14 +116,14 @@ module _ (n : ℕ) (h : List Operation) (g : IsGroupModulo n h) where
       plain : (u : Triple) → image identity u ≡ u
       plain u = by_triples (coordinates u) (formulas.image quoted (formulas.scalar quoted (con (pos 1))) (vector_of_variables 0)) (vector_of_variables 0) refl
 
-      sums : (t u : Triple) → IsMember (pure_translation t) h → IsMember (pure_translation u) h → IsMember (pure_translation (residue n (sum_of t u))) h
+      sums : (t u : Triple) → IsMember (pure_translation t) h → IsMember (pure_translation u) h → IsMember (pure_translation (modulo n (sum_of t u))) h
       sums t u ht hu =
           let r = g.composed (pure_translation t) (pure_translation u) ht hu in
           let c = r.1.1 in
           let is : sum_of (image identity t) u ≡ sum_of t u = ap (λ v. sum_of v u) (plain t) in
           let away : DiffersByCells n (sum_of t u) r.0.translation = record { cells = c.translation.cells; is = sym is ∙ c.translation.same } in
-          let et : r.0.translation ≡ residue n (sum_of t u) =
-          translations_same n r.0.translation (residue n (sum_of t u)) c.translation.within (residue_within n (sum_of t u) (some_cells n h g)) (apart_by n (sum_of t u) r.0.translation (residue n (sum_of t u)) away (residue_away n (sum_of t u) (some_cells n h g))) in
+          let et : r.0.translation ≡ modulo n (sum_of t u) =
+          translations_same n r.0.translation (modulo n (sum_of t u)) c.translation.within (modulo_within n (sum_of t u) (some_cells n h g)) (apart_by n (sum_of t u) r.0.translation (modulo n (sum_of t u)) away (modulo_away n (sum_of t u) (some_cells n h g))) in
           subst (λ o. IsMember o h) (λ k. record { matrix = (c.matrix ∙ ones) k; translation = et k; sign = sym (same_sign r.0.sign Same Same c.sign) k }) r.1.0
         where
           apart_by : (n : ℕ) (p q r : Triple) → DiffersByCells n p q → DiffersByCells n p r → DiffersByCells n q r
@@ -196,5 +196,5 @@ step_facts h s g k =
     in_it : (o : Operation) → IsMember o h → o.matrix ≡ identity → o.sign ≡ Same → InLattice 12 h o.translation
     in_it o ho em es =
         let some = some_cells 12 h g in
-        let et = translations_same 12 o.translation (residue 12 o.translation) (g.within_cell o ho) (residue_within 12 o.translation some) (residue_away 12 o.translation some) in
+        let et = translations_same 12 o.translation (modulo 12 o.translation) (g.within_cell o ho) (modulo_within 12 o.translation some) (modulo_away 12 o.translation some) in
         subst (λ p. IsMember p h) (λ j. record { matrix = em j; translation = et j; sign = es j }) ho

@@ -5,17 +5,20 @@ use Rattle.std.proofs.Common.{◌≡◌, ℕ, suc, ℤ, pos, ◌*ℤ◌, ◌<ℤ
 use Rattle.std.specs.Prelude.{◌↔◌}
 use Rattle.ring.specs.Ring.{var, con, quoted, ◌:*◌}
 use Rattle.ring.proofs.IntOrder.{mul_pos}
+use Rattle.lists.specs.Increasing.{IsMember, IsDistinct}
+use Rattle.lists.proofs.Counting.{Into, covered, into_le}
+use Rattle.lists.proofs.Distinct.{IsDistinct-from_mapped, IsDistinct-mapped, told_apart}
+use Rattle.lists.proofs.Members.{MappedFrom, mapped_from, mapped_member}
 use Rattle.matrix3.specs.Matrices.{coordinates, entries, vector_of_variables, matrix_of_variables}
 use Rattle.matrix3.specs.Matrices as formulas
 use Rattle.crystal_spec.specs.declared.Sign.{Sign}
 use Rattle.crystal_spec.specs.declared.Sign.TheVariants.{Same, Reversed}
 use Rattle.crystal_spec.specs.Matrices.{Triple, Matrix, product, image, determinant, adjugate, multiple, sum_of, difference}
-use Rattle.crystal_spec.specs.Increasing.{IsMember, IsDistinct}
 use Rattle.crystal_spec.specs.Operations.{Operation}
 use Rattle.crystal_spec.proofs.Identities.{by_integers, by_triples}
 use Rattle.crystal_spec.proofs.Isometries.{determinant-product}
-use Rattle.crystal_spec.proofs.Counting.{Into, covered}
-use Rattle.basis_spec.specs.Positions.{origin}
+use Rattle.positions.specs.Positions.{origin}
+use Rattle.std.proofs.lemmas.List.{length-map}
 use Rattle.op_group.specs.Groups.{IsGroupModulo}
 use Rattle.mag_type.specs.MagneticTypes.{HasOnlyZeroTranslation}
 use Rattle.match_spec.specs.Points.{Point, point, IsPoint, IsInCell, IsWhole, SameModuloOne}
@@ -25,7 +28,6 @@ use Rattle.match_spec.proofs.Laws.{zero_vector}
 use Rattle.match_spec.proofs.Wholes.{whole_is, cancel_left, cancel_right, not_zero}
 use Rattle.match_spec.proofs.Units.{InUnits, in_units, same_to, same_from}
 use Rattle.match_spec.proofs.Moves.{lit_pos, image_units, in_image, image_triple}
-use Rattle.match_spec.proofs.Pigeon.{no_longer}
 use Rattle.match_spec.specs.Searching.{class_of, AreRepresentatives, source_of, AreMatched, IsFirstOfMatrix, IsLaterOfMatrix, IsPart, gap_sum, place_units, excess_at, AllWhole}
 use Rattle.match_spec.proofs.Counts.{IsClasses, Turns, matched, same_class}
 use Rattle.match_spec.proofs.Homs.{Lands, scale_of}
@@ -41,47 +43,12 @@ use Rattle.match_spec.proofs.ListedGroups.{some_cells, group_of, primitive_of, s
 
 -- ---- lists of classes
 
-pub mapped : {X Y : Type 0} (f : X → Y) (x : X) (xs : List X) → IsMember x xs → IsMember (f x) (map f xs)
-mapped f x [] h = absurd h
-mapped f x (y ∷ ys) (inl e) = inl (ap f e)
-mapped f x (y ∷ ys) (inr k) = inr (mapped f x ys k)
-
-pub unmapped : {X Y : Type 0} (f : X → Y) (y : Y) (xs : List X) → IsMember y (map f xs) → (x : X) × (IsMember x xs × (y ≡ f x))
-unmapped f y [] h = absurd h
-unmapped f y (x ∷ xs) (inl e) = (x, (inl refl, e))
-unmapped f y (x ∷ xs) (inr k) = (let r = unmapped f y xs k in (r.0, (inr r.1.0, r.1.1)))
-
--- where the images are distinct, a member is known by its image
-pub told_apart : {X Y : Type 0} (f : X → Y) (xs : List X) → IsDistinct (map f xs) → (x w : X) → IsMember x xs → IsMember w xs → f x ≡ f w → x ≡ w
-told_apart f [] d x w h k s = absurd h
-told_apart f (y ∷ ys) d x w (inl e) (inl k) s = e ∙ sym k
-told_apart f (y ∷ ys) d x w (inl e) (inr k) s = absurd (d.0 (subst (λ z. IsMember z (map f ys)) (sym s ∙ ap f e) (mapped f w ys k)))
-told_apart f (y ∷ ys) d x w (inr h) (inl k) s = absurd (d.0 (subst (λ z. IsMember z (map f ys)) (s ∙ ap f k) (mapped f x ys h)))
-told_apart f (y ∷ ys) d x w (inr h) (inr k) s = told_apart f ys d.1 x w h k s
-
-pub distinct_of_map : {X Y : Type 0} (f : X → Y) (xs : List X) → IsDistinct (map f xs) → IsDistinct xs
-distinct_of_map f [] d = tt
-distinct_of_map f (x ∷ xs) d = ((λ h. d.0 (mapped f x xs h)), distinct_of_map f xs d.1)
-
-pub map_distinct : {X Y : Type 0} (f : X → Y) (xs : List X) → IsDistinct xs → ((x w : X) → IsMember x xs → IsMember w xs → f x ≡ f w → x ≡ w) → IsDistinct (map f xs)
-map_distinct f [] d h = tt
-map_distinct {X} {Y} f (x ∷ xs) d h = (new, map_distinct f xs d.1 (λ v w hv hw. h v w (inr hv) (inr hw)))
-  where
-    new : IsMember (f x) (map f xs) → ⊥
-    new k =
-        let w = unmapped f (f x) xs k in
-        d.0 (subst (λ z. IsMember z xs) (sym (h x w.0 (inl refl) (inr w.1.0) w.1.1)) w.1.0)
-
-pub length_mapped : {X Y : Type 0} (f : X → Y) (xs : List X) → length (map f xs) ≡ length xs
-length_mapped f [] = refl
-length_mapped f (x ∷ xs) = ap (λ (n : ℕ). suc n) (length_mapped f xs)
-
 -- the classes of the representatives are those of the group
 pub classes_of : (h rs : List Operation) → AreRepresentatives h rs → IsClasses h (map class_of rs)
 classes_of h rs r = record {
   distinct = r.distinct;
-  classes = λ c k. (let x = unmapped class_of c rs k in (x.0, (r.of_list x.0 x.1.0, sym x.1.1)));
-  all = λ o k. (let x = r.each o k in subst (λ c. IsMember c (map class_of rs)) x.1.1 (mapped class_of x.0 rs x.1.0));
+  classes = λ c k. (let x = mapped_from class_of c rs k in (x.item, (r.of_list x.item x.of_list, sym x.is)));
+  all = λ o k. (let x = r.each o k in subst (λ c. IsMember c (map class_of rs)) x.1.1 (mapped_member class_of x.0 rs x.1.0));
 }
 
 -- ---- parts of a list
@@ -168,9 +135,9 @@ module _ (n : ℕ) (m : List Operation) (g : IsGroupModulo n m) (pr : HasOnlyZer
   -- each member of the found group has a class of its own
   pub found_classes : IsDistinct m → IsClasses m (map class_of m)
   found_classes d = record {
-    distinct = map_distinct class_of m d (λ x w hx hw e. same_member n m g pr x w hx hw (ap (λ c. c.matrix) e) (ap (λ c. c.sign) e));
-    classes = λ c k. (let x = unmapped class_of c m k in (x.0, (x.1.0, sym x.1.1)));
-    all = λ p k. mapped class_of p m k;
+    distinct = IsDistinct-mapped class_of m d (λ x w hx hw e. same_member n m g pr x w hx hw (ap (λ c. c.matrix) e) (ap (λ c. c.sign) e));
+    classes = λ c k. (let x = mapped_from class_of c m k in (x.item, (x.of_list, sym x.is)));
+    all = λ p k. mapped_member class_of p m k;
   }
 
   module _ (h : List Operation) (gh : IsGroupModulo 12 h) (s : Matrix) (st : IsStep h s) (rs : List Operation) (ar : AreRepresentatives h rs) (d : IsDistinct m) where
@@ -188,28 +155,28 @@ module _ (n : ℕ) (m : List Operation) (g : IsGroupModulo n m) (pr : HasOnlyZer
         let q = product c s in
         let nz = turn_nonzero c ic in
         let mt = matched q p h (pos n) m (map class_of rs) (map class_of m) nz (classes_of h rs ar) (found_classes d) ca in
-        let le : length (map class_of rs) ≤ length (map class_of m) = no_longer (Turns q) (map class_of rs) (map class_of m) ar.distinct (record { right = mt.right; one_left = λ x w y hx hw. mt.one_left x w y }) in
-        let ge : length (map class_of m) ≤ length (map class_of rs) = no_longer (λ y x. Turns q x y) (map class_of m) (map class_of rs) (found_classes d).distinct (record { right = mt.left; one_left = λ y z x hy hz. mt.one_right x y z }) in
-        omega (arith, le, ge, length_mapped class_of rs, length_mapped class_of m)
+        let le : length (map class_of rs) ≤ length (map class_of m) = into_le (Turns q) (map class_of rs) (map class_of m) ar.distinct (record { right = mt.right; one_left = λ x w y hx hw. mt.one_left x w y }) in
+        let ge : length (map class_of m) ≤ length (map class_of rs) = into_le (λ y x. Turns q x y) (map class_of m) (map class_of rs) (found_classes d).distinct (record { right = mt.left; one_left = λ y z x hy hz. mt.one_right x y z }) in
+        omega (arith, le, ge, length-map rs class_of, length-map m class_of)
 
     module _ (c : Matrix) (ic : IsClass c) (cs : List Pair) (am : AreMatched (product c s) m rs cs) (le : length m ≤ length rs) where
-      pair_of_source : (r : Operation) → IsMember r rs → (k : Pair) × (IsMember k cs × (r ≡ k.source))
-      pair_of_source r hr = unmapped source_of r cs (subst (λ os. IsMember r os) (sym am.sources) hr)
+      pair_of_source : (r : Operation) → IsMember r rs → MappedFrom source_of r cs
+      pair_of_source r hr = mapped_from source_of r cs (subst (λ os. IsMember r os) (sym am.sources) hr)
 
       -- each member of the found group stands in one of the pairs
       pub met : (f : Operation) → IsMember f m → (k : Pair) × (IsMember k cs × (k.member ≡ f))
       met f hf =
-          let x = covered Goes rs m (distinct_of_map class_of rs ar.distinct) le into f hf in
+          let x = covered Goes rs m (IsDistinct-from_mapped class_of rs ar.distinct) le into f hf in
           let k = pair_of_source x.0 x.1.0 in
-          let e = am.each k.0 k.1.0 in
-          (k.0, (k.1.0, same_member n m g pr k.0.member f e.member hf (cancel_right (product c s) k.0.member.matrix f.matrix (turn_nonzero c ic) (e.matrix ∙ (ap (λ o. product (product c s) o.matrix) (sym k.1.1) ∙ sym x.1.1.matrix))) (e.sign ∙ (ap (λ o. o.sign) (sym k.1.1) ∙ sym x.1.1.sign))))
+          let e = am.each k.item k.of_list in
+          (k.item, (k.of_list, same_member n m g pr k.item.member f e.member hf (cancel_right (product c s) k.item.member.matrix f.matrix (turn_nonzero c ic) (e.matrix ∙ (ap (λ o. product (product c s) o.matrix) (sym k.is) ∙ sym x.1.1.matrix))) (e.sign ∙ (ap (λ o. o.sign) (sym k.is) ∙ sym x.1.1.sign))))
         where
           Goes : Operation → Operation → Type 0
           Goes r f = Turns (product c s) (class_of r) (class_of f)
 
           into : Into Goes rs m
           into = record {
-            right = λ r hr. (let k = pair_of_source r hr in let e = am.each k.0 k.1.0 in (k.0.member, (e.member, record { matrix = e.matrix ∙ ap (λ o. product (product c s) o.matrix) (sym k.1.1); sign = e.sign ∙ ap (λ o. o.sign) (sym k.1.1) })));
+            right = λ r hr. (let k = pair_of_source r hr in let e = am.each k.item k.of_list in (k.item.member, (e.member, record { matrix = e.matrix ∙ ap (λ o. product (product c s) o.matrix) (sym k.is); sign = e.sign ∙ ap (λ o. o.sign) (sym k.is) })));
             one_left = λ r w f hr hw a b. told_apart class_of rs ar.distinct r w hr hw (same_class (class_of r) (class_of w) (cancel_left (product c s) r.matrix w.matrix (turn_nonzero c ic) (sym a.matrix ∙ b.matrix)) (sym a.sign ∙ b.sign));
           }
 
@@ -227,23 +194,23 @@ module _ (n : ℕ) (m : List Operation) (g : IsGroupModulo n m) (pr : HasOnlyZer
           one_each_carries q p h (pos n) m (turn_nonzero c ic) pn ip gm (primitive_of n m pr) (λ o ho. lands o ho) (λ f hf. (let k = met f hf in (k.0.source, (ar.of_list k.0.source (source_in k.0 k.1.0), (ap (λ o. product o.matrix q) (sym k.1.1) ∙ (am.each k.0 k.1.0).matrix, ap (λ o. o.sign) (sym k.1.1) ∙ (am.each k.0 k.1.0).sign)))))
         where
           source_in : (k : Pair) → IsMember k cs → IsMember k.source rs
-          source_in k hk = subst (λ os. IsMember k.source os) am.sources (mapped source_of k cs hk)
+          source_in k hk = subst (λ os. IsMember k.source os) am.sources (mapped_member source_of k cs hk)
 
           lands : (o : Operation) → IsMember o h → Lands (product c s) p (pos n) m o
           lands o ho =
               let r = ar.each o ho in
               let k = pair_of_source r.0 r.1.0 in
-              let e = am.each k.0 k.1.0 in
-              let there : Lands (product c s) p (pos n) m k.0.source =
-              record { found = k.0.member; member = e.member; is_image = record { matrix = e.matrix; translation = fits k.0 k.1.0; sign = e.sign } } in
-              lands_pure (pos n) p (scale_of (pos n) p (some_cells n m g) ip) (product c s) m h (group_of 12 h gh) (takes_pure c s h st.takes_pure) k.0.source o (ar.of_list k.0.source (source_in k.0 k.1.0)) ho (sym (ap (λ z. z.matrix) r.1.1) ∙ ap (λ z. z.matrix) k.1.1) (sym (ap (λ z. z.sign) r.1.1) ∙ ap (λ z. z.sign) k.1.1) there
+              let e = am.each k.item k.of_list in
+              let there : Lands (product c s) p (pos n) m k.item.source =
+              record { found = k.item.member; member = e.member; is_image = record { matrix = e.matrix; translation = fits k.item k.of_list; sign = e.sign } } in
+              lands_pure (pos n) p (scale_of (pos n) p (some_cells n m g) ip) (product c s) m h (group_of 12 h gh) (takes_pure c s h st.takes_pure) k.item.source o (ar.of_list k.item.source (source_in k.item k.of_list)) ho (sym (ap (λ z. z.matrix) r.1.1) ∙ ap (λ z. z.matrix) k.is) (sym (ap (λ z. z.sign) r.1.1) ∙ ap (λ z. z.sign) k.is) there
 
       -- and where it carries they agree
       pub carries_fits : (p : Point) → IsPoint p → Carries (product c s) p h (pos n) m → (k : Pair) → IsMember k cs → Fits p k
       carries_fits p ip ca k hk =
           let e = am.each k hk in
           let o = k.source in
-          let ho : IsMember o h = ar.of_list o (subst (λ os. IsMember o os) am.sources (mapped source_of k cs hk)) in
+          let ho : IsMember o h = ar.of_list o (subst (λ os. IsMember o os) am.sources (mapped_member source_of k cs hk)) in
           let x = ca.into o ho in
           (lands_at (product c s) p (pos n) m o k.member (turn_nonzero c ic) (some_cells n m g) ip (group_of n m g) (primitive_of n m pr) e.member e.matrix e.sign).0 (record { found = x.0; member = x.1.0; is_image = x.1.1 })
 
@@ -253,8 +220,8 @@ module _ (n : ℕ) (m : List Operation) (g : IsGroupModulo n m) (pr : HasOnlyZer
           let q = product c s in
           let ex = am.each x hx in
           let ew = am.each w hw in
-          let sx : IsMember x.source rs = subst (λ os. IsMember x.source os) am.sources (mapped source_of x cs hx) in
-          let sw : IsMember w.source rs = subst (λ os. IsMember w.source os) am.sources (mapped source_of w cs hw) in
+          let sx : IsMember x.source rs = subst (λ os. IsMember x.source os) am.sources (mapped_member source_of x cs hx) in
+          let sw : IsMember w.source rs = subst (λ os. IsMember w.source os) am.sources (mapped_member source_of w cs hw) in
           let source : x.source ≡ w.source =
           told_apart class_of rs ar.distinct x.source w.source sx sw (same_class (class_of x.source) (class_of w.source) (cancel_left q x.source.matrix w.source.matrix (turn_nonzero c ic) (sym ex.matrix ∙ (ap (λ o. product o.matrix q) e ∙ ew.matrix))) (sym ex.sign ∙ (ap (λ o. o.sign) e ∙ ew.sign))) in
           (λ k. record { member = e k; source = source k })
@@ -264,14 +231,14 @@ module _ (n : ℕ) (m : List Operation) (g : IsGroupModulo n m) (pr : HasOnlyZer
       chosen_pairs ds pt = record {
         each = λ x hx. (let k = of x hx in let e = am.each x k.0 in record {
           member = e.member;
-          source = ar.of_list x.source (subst (λ os. IsMember x.source os) am.sources (mapped source_of x cs k.0));
+          source = ar.of_list x.source (subst (λ os. IsMember x.source os) am.sources (mapped_member source_of x cs k.0));
           matrix = e.matrix;
           sign = e.sign;
           same_if_any = λ o ho em es. unless x.member.sign (λ r. k.1 r (record { operation = o; of_list = ho; matrix = em; sign = es }));
         });
         matrices = record {
-          distinct = map_distinct matrix_of ds (part_distinct First Later cs ds pt (distinct_of_map source_of cs (subst IsDistinct (sym am.sources) (distinct_of_map class_of rs ar.distinct)))) (λ x w hx hw e. one x w (of x hx) (of w hw) e (either x.member.sign) (either w.member.sign));
-          matrices = λ v hv. (let x = unmapped matrix_of v ds hv in (x.0.member, ((am.each x.0 (of x.0 x.1.0).0).member, sym x.1.1)));
+          distinct = IsDistinct-mapped matrix_of ds (part_distinct First Later cs ds pt (IsDistinct-from_mapped source_of cs (subst IsDistinct (sym am.sources) (IsDistinct-from_mapped class_of rs ar.distinct)))) (λ x w hx hw e. one x w (of x hx) (of w hw) e (either x.member.sign) (either w.member.sign));
+          matrices = λ v hv. (let x = mapped_from matrix_of v ds hv in (x.item.member, ((am.each x.item (of x.item x.of_list).0).member, sym x.is)));
           all = λ f hf. (let k = met f hf in subst (λ o. IsMember o.matrix (map matrix_of ds)) k.1.1 (there k.0 k.1.0 (part_either First Later cs ds pt k.0 k.1.0)));
         };
       }
@@ -304,10 +271,10 @@ module _ (n : ℕ) (m : List Operation) (g : IsGroupModulo n m) (pr : HasOnlyZer
               absurd (hx.1 a (record { operation = w.member; of_list = (am.each w hw.0).member; matrix = sym e; sign = b }))
 
           there : (k : Pair) → IsMember k cs → IsMember k ds ⊎ IsLaterOfMatrix m k → IsMember k.member.matrix (map matrix_of ds)
-          there k hk (inl j) = mapped matrix_of k ds j
+          there k hk (inl j) = mapped_member matrix_of k ds j
           there k hk (inr l) =
               let o = met l.unprimed.operation l.unprimed.of_list in
-              subst (λ v. IsMember v (map matrix_of ds)) (ap (λ f. f.matrix) o.1.1 ∙ l.unprimed.matrix) (mapped matrix_of o.0 ds (first o.0 (ap (λ f. f.sign) o.1.1 ∙ l.unprimed.sign) (part_either First Later cs ds pt o.0 o.1.0)))
+              subst (λ v. IsMember v (map matrix_of ds)) (ap (λ f. f.matrix) o.1.1 ∙ l.unprimed.matrix) (mapped_member matrix_of o.0 ds (first o.0 (ap (λ f. f.sign) o.1.1 ∙ l.unprimed.sign) (part_either First Later cs ds pt o.0 o.1.0)))
             where
               first : (o : Pair) → o.member.sign ≡ Same → IsMember o ds ⊎ IsLaterOfMatrix m o → IsMember o ds
               first o e (inl j) = j

@@ -12,9 +12,9 @@
 --   IsFirstMap h n m c q p    that holds of c and p with S, and q is c S
 --   HasNoMap h n m            no P and no point carry, with S
 use Rattle.std.specs.Prelude.{◌≡◌, ◌⊎◌, ℕ, ◌≤◌, List, [], ◌∷◌, length, ℤ, pos, negsuc, ◌≤ℤ◌, ◌<ℤ◌}
+use Rattle.lists.specs.Increasing.{IsMember}
 use Rattle.matrix3.specs.Matrices.{entries, coordinates, EachEntry}
 use Rattle.crystal_spec.specs.Matrices.{Matrix, product, determinant, multiple}
-use Rattle.crystal_spec.specs.Increasing.{IsMember}
 use Rattle.crystal_spec.specs.Operations.{Operation}
 use Rattle.basis_spec.specs.StepBases.{InLattice, IsSteps}
 use Rattle.match_spec.specs.Points.{Point, IsPoint, IsInCell}

@@ -1,2 +1,2 @@
 mod KnownValues
-pub mod RowLemmas
+mod RowLemmas

@@ -3,9 +3,12 @@
 --   image_fits, image_size                a matrix applied to a column
 --   determinant_fits, determinant_size    the determinant
 --   adjugate_fits, adjugate_size          the adjugate
+--   sum_size, difference_size, multiple_size, matrix_multiple_size    columns and multiples
+--   transposed_size                       the transpose
+--   grown, coordinates_grown, entries_grown    a larger bound
 -- m bounds the size of each entry of the first matrix, n that of each entry of the second or of the column, and N the
 -- size of a value of the type. At numerals each premise `T (leb .. N)` is `tt`.
-use Rattle.std.proofs.Common.{ℕ, ◌+◌, ◌*◌, ◌≤◌, T, ℤ, arith}
+use Rattle.std.proofs.Common.{ℕ, ◌+◌, ◌*◌, ◌≤◌, T, ℤ, ◌*ℤ◌, arith}
 use Rattle.std.proofs.Math.Dec.{leb}
 use Rattle.std.proofs.Math.Facts.{leb_yes}
 use Rattle.ring.specs.Ring.{int_ops}
@@ -13,12 +16,59 @@ use Rattle.ring.specs.Size.{AtMost}
 use Rattle.ring.proofs.Sizes.{at_most_mul, at_most_add, at_most_neg}
 use Rattle.matrix3.specs.declared.vector.Vec3.{Vec3}
 use Rattle.matrix3.specs.declared.matrix.Mat3.{Mat3}
-use Rattle.matrix3.specs.Matrices.{dot, minor, alternating, product, image, determinant, adjugate, EachEntry, EachCoordinate}
+use Rattle.matrix3.specs.Matrices.{dot, minor, alternating, product, image, transposed, determinant, adjugate, sum_of, difference, multiple, matrix_map, EachEntry, EachCoordinate}
+use Rattle.matrix3.specs.Bounds.{EntriesAtMost, CoordinatesAtMost}
 use Rattle.matrix3.specs.Fits.{DotFits, MinorFits, AlternatingFits, ProductFits, ImageFits, DeterminantFits, AdjugateFits}
 
 -- a larger bound
-raise : {m n : ℕ} {z : ℤ} → m ≤ n → AtMost m z → AtMost n z
-raise h k = record { size = omega (arith, h, k.size) }
+pub grown : {m n : ℕ} {z : ℤ} → m ≤ n → AtMost m z → AtMost n z
+grown h k = record { size = omega (arith, h, k.size) }
+
+-- a larger bound of each coordinate
+pub coordinates_grown : {m n : ℕ} {v : Vec3 ℤ} → m ≤ n → CoordinatesAtMost m v → CoordinatesAtMost n v
+coordinates_grown h v = record { x = grown h v.x; y = grown h v.y; z = grown h v.z }
+
+-- a larger bound of each entry
+pub entries_grown : {m n : ℕ} {a : Mat3 ℤ} → m ≤ n → EntriesAtMost m a → EntriesAtMost n a
+entries_grown h a = record {
+  a11 = grown h a.a11;
+  a12 = grown h a.a12;
+  a13 = grown h a.a13;
+  a21 = grown h a.a21;
+  a22 = grown h a.a22;
+  a23 = grown h a.a23;
+  a31 = grown h a.a31;
+  a32 = grown h a.a32;
+  a33 = grown h a.a33;
+}
+
+-- sums, differences and multiples of columns
+pub sum_size : {m n : ℕ} {u v : Vec3 ℤ} → CoordinatesAtMost m u → CoordinatesAtMost n v → CoordinatesAtMost (m + n) (sum_of int_ops u v)
+sum_size h k = record { x = at_most_add h.x k.x; y = at_most_add h.y k.y; z = at_most_add h.z k.z }
+
+pub difference_size : {m n : ℕ} {u v : Vec3 ℤ} → CoordinatesAtMost m u → CoordinatesAtMost n v → CoordinatesAtMost (m + n) (difference int_ops u v)
+difference_size h k = record { x = at_most_add h.x (at_most_neg k.x); y = at_most_add h.y (at_most_neg k.y); z = at_most_add h.z (at_most_neg k.z) }
+
+pub multiple_size : {m n : ℕ} {k : ℤ} {v : Vec3 ℤ} → AtMost m k → CoordinatesAtMost n v → CoordinatesAtMost (m * n) (multiple int_ops k v)
+multiple_size s h = record { x = at_most_mul s h.x; y = at_most_mul s h.y; z = at_most_mul s h.z }
+
+-- a multiple of a matrix
+pub matrix_multiple_size : {m n : ℕ} {k : ℤ} {a : Mat3 ℤ} → AtMost m k → EntriesAtMost n a → EntriesAtMost (m * n) (matrix_map (λ x. k *ℤ x) a)
+matrix_multiple_size s h = record {
+  a11 = at_most_mul s h.a11;
+  a12 = at_most_mul s h.a12;
+  a13 = at_most_mul s h.a13;
+  a21 = at_most_mul s h.a21;
+  a22 = at_most_mul s h.a22;
+  a23 = at_most_mul s h.a23;
+  a31 = at_most_mul s h.a31;
+  a32 = at_most_mul s h.a32;
+  a33 = at_most_mul s h.a33;
+}
+
+-- the transpose has entries of the same sizes
+pub transposed_size : {m : ℕ} (a : Mat3 ℤ) → EntriesAtMost m a → EntriesAtMost m (transposed a)
+transposed_size a h = record { a11 = h.a11; a12 = h.a21; a13 = h.a31; a21 = h.a12; a22 = h.a22; a23 = h.a32; a31 = h.a13; a32 = h.a23; a33 = h.a33 }
 
 -- ---- sums of three products
 
@@ -27,11 +77,11 @@ dot_size a b c x y z = at_most_add (at_most_add (at_most_mul a x) (at_most_mul b
 
 dot_fits : {m n N : ℕ} {a b c x y z : ℤ} → m * n + m * n + m * n ≤ N → AtMost m a → AtMost m b → AtMost m c → AtMost n x → AtMost n y → AtMost n z → DotFits int_ops (AtMost N) a b c x y z
 dot_fits h a b c x y z = record {
-  first = raise (omega (arith, h)) (at_most_mul a x);
-  second = raise (omega (arith, h)) (at_most_mul b y);
-  third = raise (omega (arith, h)) (at_most_mul c z);
-  two = raise (omega (arith, h)) (at_most_add (at_most_mul a x) (at_most_mul b y));
-  three = raise h (dot_size a b c x y z);
+  first = grown (omega (arith, h)) (at_most_mul a x);
+  second = grown (omega (arith, h)) (at_most_mul b y);
+  third = grown (omega (arith, h)) (at_most_mul c z);
+  two = grown (omega (arith, h)) (at_most_add (at_most_mul a x) (at_most_mul b y));
+  three = grown h (dot_size a b c x y z);
 }
 
 -- ---- the matrix product, and a matrix applied to a column
@@ -93,9 +143,9 @@ minor_size a b c d = at_most_add (at_most_mul a d) (at_most_neg (at_most_mul b c
 
 minor_fits : {m N : ℕ} {a b c d : ℤ} → m * m + m * m ≤ N → AtMost m a → AtMost m b → AtMost m c → AtMost m d → MinorFits int_ops (AtMost N) a b c d
 minor_fits h a b c d = record {
-  first = raise (omega (arith, h)) (at_most_mul a d);
-  second = raise (omega (arith, h)) (at_most_mul b c);
-  difference = raise h (minor_size a b c d);
+  first = grown (omega (arith, h)) (at_most_mul a d);
+  second = grown (omega (arith, h)) (at_most_mul b c);
+  difference = grown h (minor_size a b c d);
 }
 
 alternating_size : {m n : ℕ} {a b c x y z : ℤ} → AtMost m a → AtMost m b → AtMost m c → AtMost n x → AtMost n y → AtMost n z → AtMost (m * n + m * n + m * n) (alternating int_ops a b c x y z)
@@ -104,11 +154,11 @@ alternating_size a b c x y z =
 
 alternating_fits : {m n N : ℕ} {a b c x y z : ℤ} → m * n + m * n + m * n ≤ N → AtMost m a → AtMost m b → AtMost m c → AtMost n x → AtMost n y → AtMost n z → AlternatingFits int_ops (AtMost N) a b c x y z
 alternating_fits h a b c x y z = record {
-  first = raise (omega (arith, h)) (at_most_mul a x);
-  second = raise (omega (arith, h)) (at_most_mul b y);
-  third = raise (omega (arith, h)) (at_most_mul c z);
-  two = raise (omega (arith, h)) (at_most_add (at_most_mul a x) (at_most_neg (at_most_mul b y)));
-  three = raise h (alternating_size a b c x y z);
+  first = grown (omega (arith, h)) (at_most_mul a x);
+  second = grown (omega (arith, h)) (at_most_mul b y);
+  third = grown (omega (arith, h)) (at_most_mul c z);
+  two = grown (omega (arith, h)) (at_most_add (at_most_mul a x) (at_most_neg (at_most_mul b y)));
+  three = grown h (alternating_size a b c x y z);
 }
 
 module _ {m : ℕ} (a : Mat3 ℤ) (p : EachEntry (AtMost m) a) where

@@ -1,4 +1,4 @@
 pub mod MatrixLaws
 pub mod FitsBySize
 mod KnownValues
-mod InverseLemmas
+pub mod InverseLemmas

@@ -8,9 +8,12 @@
 --   determinant a           the determinant, by six terms
 --   adjugate a              the matrix of signed minors, whose product with a is the determinant times the identity
 --   scalar k                k times the identity
+--   matrix_sum a b          the sum of two matrices
 --   sum_of u v              the sum of two columns
 --   difference u v          the difference of two columns
 --   multiple k v            k times a column
+--   of_columns u v w        the matrix with these three columns
+--   column1 a               the first column; column2 a and column3 a likewise
 --   matrix_map f a          f at each entry; vector_map f v likewise
 --   EachEntry P a           P holds for each entry; EachCoordinate P v likewise
 --   entries a               the nine entries row by row; coordinates v likewise
@@ -81,6 +84,20 @@ module _ {R : Type 0} (o : Ops R) where
       let zero = int (pos 0) in
       record { a11 = k; a12 = zero; a13 = zero; a21 = zero; a22 = k; a23 = zero; a31 = zero; a32 = zero; a33 = k }
 
+  -- the sum of two matrices
+  abbrev pub matrix_sum : Mat3 R → Mat3 R → Mat3 R
+  matrix_sum a b = record {
+    a11 = a.a11 ⊕ b.a11;
+    a12 = a.a12 ⊕ b.a12;
+    a13 = a.a13 ⊕ b.a13;
+    a21 = a.a21 ⊕ b.a21;
+    a22 = a.a22 ⊕ b.a22;
+    a23 = a.a23 ⊕ b.a23;
+    a31 = a.a31 ⊕ b.a31;
+    a32 = a.a32 ⊕ b.a32;
+    a33 = a.a33 ⊕ b.a33;
+  }
+
   -- the sum of two columns
   abbrev pub sum_of : Vec3 R → Vec3 R → Vec3 R
   sum_of u v = record { x = u.x ⊕ v.x; y = u.y ⊕ v.y; z = u.z ⊕ v.z }
@@ -96,6 +113,20 @@ module _ {R : Type 0} (o : Ops R) where
 -- the transpose
 abbrev pub transposed : {R : Type 0} → Mat3 R → Mat3 R
 transposed a = record { a11 = a.a11; a12 = a.a21; a13 = a.a31; a21 = a.a12; a22 = a.a22; a23 = a.a32; a31 = a.a13; a32 = a.a23; a33 = a.a33 }
+
+-- the matrix with these three columns
+abbrev pub of_columns : {R : Type 0} → Vec3 R → Vec3 R → Vec3 R → Mat3 R
+of_columns u v w = record { a11 = u.x; a12 = v.x; a13 = w.x; a21 = u.y; a22 = v.y; a23 = w.y; a31 = u.z; a32 = v.z; a33 = w.z }
+
+-- the columns
+abbrev pub column1 : {R : Type 0} → Mat3 R → Vec3 R
+column1 a = record { x = a.a11; y = a.a21; z = a.a31 }
+
+abbrev pub column2 : {R : Type 0} → Mat3 R → Vec3 R
+column2 a = record { x = a.a12; y = a.a22; z = a.a32 }
+
+abbrev pub column3 : {R : Type 0} → Mat3 R → Vec3 R
+column3 a = record { x = a.a13; y = a.a23; z = a.a33 }
 
 -- f at each entry
 abbrev pub matrix_map : {R S : Type 0} → (R → S) → Mat3 R → Mat3 S

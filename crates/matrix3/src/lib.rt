@@ -8,11 +8,10 @@
 //! `proofs/MatrixLaws.antt`.
 #![tactic(auto)]
 
+mod integers;
 mod inverse;
 mod laws;
 mod matrix;
-#[cfg(test)]
-mod tests;
 mod vector;
 
 pub use laws::{

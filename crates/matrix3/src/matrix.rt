@@ -1,7 +1,7 @@
 // Three by three matrices.
 
 ghost use Rattle.std.specs.Prelude.{◌≡◌};
-ghost use Rattle.matrix3.specs.Matrices.{dot, minor, alternating, product, image, transposed, determinant, adjugate, matrix_map, vector_map};
+ghost use Rattle.matrix3.specs.Matrices.{dot, minor, alternating, product, image, transposed, determinant, adjugate, of_columns, column1, column2, column3, matrix_map, vector_map};
 ghost use Rattle.matrix3.specs.Fits.{FiveOfModulus, MatrixOfModulus, VectorOfModulus, DotFits, MinorFits, AlternatingFits, ProductFits, ImageFits, DeterminantFits, AdjugateFits};
 
 use crate::vector::Vec3;
@@ -51,6 +51,51 @@ fn minor<T: Exact>(a: T, b: T, c: T, d: T) -> T
     ensures modulus { T.modulus result ≡ T.modulus a }
 {
     a * d - b * c
+}
+
+impl<T: Copy> Mat3<T> {
+    /// The matrix with these three columns.
+    pub fn of_columns(a: &Vec3<T>, b: &Vec3<T>, c: &Vec3<T>) -> Mat3<T>
+        ensures { result ≡ of_columns a.now b.now c.now }
+    {
+        let (a, b, c) = (*a, *b, *c);
+        Mat3 {
+            a11: a.x,
+            a12: b.x,
+            a13: c.x,
+            a21: a.y,
+            a22: b.y,
+            a23: c.y,
+            a31: a.z,
+            a32: b.z,
+            a33: c.z,
+        }
+    }
+
+    /// The three columns.
+    pub fn columns(&self) -> (Vec3<T>, Vec3<T>, Vec3<T>)
+        ensures first { result.0 ≡ column1 self.now }
+        ensures second { result.1 ≡ column2 self.now }
+        ensures third { result.2 ≡ column3 self.now }
+    {
+        let a = *self;
+        let first = Vec3 {
+            x: a.a11,
+            y: a.a21,
+            z: a.a31,
+        };
+        let second = Vec3 {
+            x: a.a12,
+            y: a.a22,
+            z: a.a32,
+        };
+        let third = Vec3 {
+            x: a.a13,
+            y: a.a23,
+            z: a.a33,
+        };
+        (first, second, third)
+    }
 }
 
 impl<T: Exact> Mat3<T> {

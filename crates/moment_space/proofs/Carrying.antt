@@ -1,15 +1,16 @@
 -- Which operations carry one position to another.
-use Rattle.std.proofs.Common.{◌≡◌, refl, sym, ap, subst, ◌∙◌, ◌⊎◌, inl, inr, ℕ, zero, suc, ◌+◌, [], ◌∷◌, ◌++◌, List, drop, add-one}
+use Rattle.std.proofs.Common.{◌≡◌, refl, sym, ap, subst, ◌∙◌, ◌⊎◌, inl, inr, ℕ, ◌+◌, [], ◌∷◌, ◌++◌, List, drop}
 use Rattle.std.specs.Prelude.{◌↔◌, ℤ, pos, negsuc, slice_get, Some}
 use Rattle.ring.specs.Ring.{quoted, var, con}
+use Rattle.lists.specs.Increasing.{IsMember}
+use Rattle.lists.proofs.Walks.{drop_at}
 use Rattle.matrix3.specs.Matrices.{coordinates, vector_of_variables}
 use Rattle.matrix3.specs.Matrices as formulas
 use Rattle.crystal_spec.specs.Matrices.{Triple, image, multiple, sum_of, difference}
-use Rattle.crystal_spec.specs.Increasing.{IsMember}
 use Rattle.crystal_spec.specs.Operations.{Operation, IsWithinCell}
 use Rattle.crystal_spec.specs.Cells.{DiffersByCells}
 use Rattle.crystal_spec.proofs.Identities.{by_triples}
-use Rattle.crystal.specs.Carrying.{FoldsTo}
+use Rattle.positions.specs.Positions.{IsModulo}
 use Rattle.basis_spec.proofs.PrimitiveCell.{differs_sym, differs_trans}
 use Rattle.basis_spec.proofs.PureTranslations.{translations_same}
 use Rattle.site_orbits.specs.Orbits.{Carries, IsAlike}
@@ -48,7 +49,7 @@ pub own_translation : (n : ℕ) (o : Operation) (p q : Triple) → Carries n o p
 own_translation n o p q h = record { cells = multiple (negsuc 0) h.cells; is = to_difference (image o.matrix p) o.translation q h.cells (pos n) h.is }
 
 -- the translation part with which the matrix carries p to q is that of the operation exactly where the operation does so
-pub carries_exactly : (n : ℕ) (o : Operation) (p q t : Triple) → IsWithinCell n o.translation → FoldsTo n (difference q (image o.matrix p)) t → (o.translation ≡ t) ↔ Carries n o p q
+pub carries_exactly : (n : ℕ) (o : Operation) (p q t : Triple) → IsWithinCell n o.translation → IsModulo n (difference q (image o.matrix p)) t → (o.translation ≡ t) ↔ Carries n o p q
 carries_exactly n o p q t within folds = (into, back)
   where
     into : o.translation ≡ t → Carries n o p q
@@ -63,15 +64,10 @@ carries_exactly n o p q t within folds = (into, back)
         translations_same n o.translation t within folds.within (differs_trans (differs_sym (own_translation n o p q h)) given)
 
 -- ---- going through a list
-drop_at : {X : Type 0} (xs : List X) (i : ℕ) (x : X) → slice_get xs i ≡ Some x → drop i xs ≡ x ∷ drop (suc i) xs
-drop_at [] i x e = absurd (cc e)
-drop_at (y ∷ ys) zero x e = let is : x ≡ y = cc e in ap (λ z. z ∷ ys) (sym is)
-drop_at (y ∷ ys) (suc i) x e = drop_at ys i x e
-
 -- where none of the rest after the operation number i carries p to q, and it does not, none of the rest from it on does
 pub alike_rest : (n : ℕ) (os : List Operation) (i : ℕ) (o : Operation) (p q : Triple) → slice_get os i ≡ Some o → (Carries n o p q → ⊥) → IsAlike n (drop i os) p q → IsAlike n (drop (i + 1) os) p q
 alike_rest n os i o p q at not h = by (subst (λ (l : List Operation). IsMember h.operation l) (drop_at os i o at) h.of_list)
   where
-    by : (h.operation ≡ o) ⊎ IsMember h.operation (drop (suc i) os) → IsAlike n (drop (i + 1) os) p q
+    by : (h.operation ≡ o) ⊎ IsMember h.operation (drop (i + 1) os) → IsAlike n (drop (i + 1) os) p q
     by (inl e) = absurd (not (subst (λ (a : Operation). Carries n a p q) e h.carries))
-    by (inr m) = record { operation = h.operation; of_list = subst (λ (k : ℕ). IsMember h.operation (drop k os)) (sym (add-one i)) m; carries = h.carries }
+    by (inr m) = record { operation = h.operation; of_list = m; carries = h.carries }

@@ -6,10 +6,10 @@
 -- is what o makes of that at a. Where none carries q to a, none carries it to a', and both have their own moments.
 use Rattle.std.proofs.Common.{◌≡◌, sym, ap, subst, ◌∙◌, ◌⊎◌, inl, inr, ℕ, [], ◌∷◌, List}
 use Rattle.std.specs.Prelude.{pos}
+use Rattle.lists.specs.Increasing.{IsMember}
 use Rattle.crystal_spec.specs.declared.MomentKind.{MomentKind}
 use Rattle.crystal_spec.specs.Matrices.{Triple, multiple, sum_of}
 use Rattle.crystal_spec.specs.Crystals.{Site, Structure, Occupied, Keeps, position_after, moment_after}
-use Rattle.crystal_spec.specs.Increasing.{IsMember}
 use Rattle.crystal_spec.specs.Operations.{Operation, ListsAll, sign_factor}
 use Rattle.crystal_spec.proofs.Images.{keeps_by_images, occupied_itself}
 use Rattle.crystal_spec.proofs.Isometries.{sign_squared}

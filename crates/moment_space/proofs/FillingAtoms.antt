@@ -9,10 +9,10 @@ use Rattle.crystal_spec.specs.Cells.{IsCell, DiffersByCells}
 use Rattle.lattice_spec.specs.Niggli.{IsNiggli}
 use Rattle.crystal.specs.Cells.{IsCellWithinLimits}
 use Rattle.crystal.proofs.CellLemmas.{is_cell}
-use Rattle.basis_spec.specs.Positions.{residue}
+use Rattle.positions.specs.Positions.{modulo}
 use Rattle.basis_spec.specs.Bases.{cell_in_basis, IsPrimitiveIn, SameCrystal}
 use Rattle.basis_spec.proofs.PrimitiveCell.{differs_sym}
-use Rattle.basis_spec.proofs.Residues.{residue_away}
+use Rattle.positions.proofs.Residues.{modulo_away}
 use Rattle.op_group.specs.Groups.{IsGroupModulo}
 use Rattle.op_group.specs.Lists.{OperationList}
 use Rattle.op_group.proofs.GroupLaws.{group_of_all}
@@ -80,14 +80,14 @@ module _ (c b : Structure) (r : Matrix) (os site : List Operation) (i : ℕ) (he
     pub small_site : HaveSmallMatrices site
     small_site o k = small_list o ((lists.exact o).0 k).0
 
-  module _ (m : Triple) (allowed : IsAllowed c.kind site m) (x : Site) (at : slice_get c.sites i ≡ Some x) (p : Triple) (place : p ≡ residue c.n (image r x.position)) (f : Structure) (replaced : HasReplaced b.kind b.n os p m b.sites b f) where
+  module _ (m : Triple) (allowed : IsAllowed c.kind site m) (x : Site) (at : slice_get c.sites i ≡ Some x) (p : Triple) (place : p ≡ modulo c.n (image r x.position)) (f : Structure) (replaced : HasReplaced b.kind b.n os p m b.sites b f) where
     allowed_there : IsAllowed b.kind site m
     allowed_there = subst (λ (k : MomentKind). IsAllowed k site m) (sym same.kind) allowed
 
     away : DiffersByCells b.n p (image r x.position)
     away =
-        let is : residue b.n (image r x.position) ≡ p = ap (λ (n : ℕ). residue n (image r x.position)) same.n ∙ sym place in
-        subst (λ (q : Triple). DiffersByCells b.n q (image r x.position)) is (differs_sym (residue_away b.n (image r x.position) cell.some_cells))
+        let is : modulo b.n (image r x.position) ≡ p = ap (λ (n : ℕ). modulo n (image r x.position)) same.n ∙ sym place in
+        subst (λ (q : Triple). DiffersByCells b.n q (image r x.position)) is (differs_sym (modulo_away b.n (image r x.position) cell.some_cells))
 
     there : HasReplaced b.kind b.n os (image r x.position) m b.sites b f
     there = record { sites = replaced_as b.kind b.n os p (image r x.position) m away b.sites f.sites replaced.sites; rest = replaced.rest }

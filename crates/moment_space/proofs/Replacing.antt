@@ -1,21 +1,21 @@
 -- Cells that are made of another, atom after atom, with other moments.
 use Rattle.std.proofs.Common.{◌≡◌, refl, sym, ap, subst, ◌∙◌, ◌⊎◌, inl, inr, ℕ, zero, suc, ◌+◌, ◌<◌, [], ◌∷◌, ◌++◌, List, length, take, add-one, arith}
 use Rattle.std.specs.Prelude.{ℤ, slice_get, Some}
+use Rattle.lists.specs.Increasing.{IsMember}
+use Rattle.lists.proofs.Walks.{take_at}
+use Rattle.lists.proofs.Members.{member_at}
 use Rattle.crystal_spec.specs.declared.MomentKind.{MomentKind}
 use Rattle.crystal_spec.specs.Matrices.{Triple, Matrix}
 use Rattle.crystal_spec.specs.Crystals.{Site, Structure}
-use Rattle.crystal_spec.specs.Increasing.{IsMember}
 use Rattle.crystal_spec.specs.Operations.{Operation}
 use Rattle.crystal_spec.specs.Cells.{DiffersByCells}
 use Rattle.crystal.specs.Cells.{AreApart}
 use Rattle.crystal.specs.Occupants.{NoneAt}
 use Rattle.crystal.proofs.CellLemmas.{none_member}
 use Rattle.basis_spec.proofs.PrimitiveCell.{differs_sym, differs_itself}
-use Rattle.prim_cell.proofs.Making.{taken_more}
 use Rattle.site_orbits.specs.Orbits.{IsAlike}
 use Rattle.site_orbits.proofs.Carrying.{carries_as, alike_as}
 use Rattle.moment_space.specs.Carried.{IsCarriedMoment, IsReplaced, ReplacesAt, AreReplaced, HasReplaced, started}
-use Rattle.moment_space.proofs.Ranges.{member_at_number}
 
 module _ (kind : MomentKind) (n : ℕ) (os : List Operation) (q m : Triple) where
   -- ---- while the cell is made
@@ -34,7 +34,7 @@ module _ (kind : MomentKind) (n : ℕ) (os : List Operation) (q m : Triple) wher
   free_so_far (x ∷ sites) zero a (b ∷ bs) p apart at is h = absurd h
   free_so_far (x ∷ sites) (suc i) a [] p apart at is h = absurd h
   free_so_far (x ∷ sites) (suc i) a (b ∷ bs) p apart at is h =
-      ((λ e. none_member x.position sites a apart.0 (member_at_number sites i a at) (sym is ∙ sym e ∙ h.0.same_position)), free_so_far sites i a bs p apart.1 at is h.1)
+      ((λ e. none_member x.position sites a apart.0 (member_at sites i a at) (sym is ∙ sym e ∙ h.0.same_position)), free_so_far sites i a bs p apart.1 at is h.1)
 
   -- one atom more
   more : (sites : List Site) (i : ℕ) (a b : Site) (bs : List Site) → slice_get sites i ≡ Some a → IsReplaced kind n os q m a b → AreReplaced kind n os q m (take i sites) bs → AreReplaced kind n os q m (take (suc i) sites) (bs ++ b ∷ [])
@@ -93,7 +93,7 @@ module _ (kind : MomentKind) (n : ℕ) (os : List Operation) (q m : Triple) wher
 pub started_is : (c : Structure) (name : List ℕ) (first : Site) (scale : ℤ) (metric : Matrix) (n k : ℕ) (kind : MomentKind) → slice_get c.names 0 ≡ Some name → scale ≡ c.scale → metric ≡ c.metric → n ≡ c.n → k ≡ c.k → kind ≡ c.kind →
     record { names = name ∷ []; scale = scale; metric = metric; n = n; k = k; kind = kind; sites = first ∷ [] } ≡ started c first
 started_is c name first scale metric n k kind is_name es em en ek eh =
-    let names : name ∷ [] ≡ take 1 c.names = taken_more c.names 0 name is_name in
+    let names : name ∷ [] ≡ take 1 c.names = take_at c.names 0 name is_name in
     (λ i. record { names = names i; scale = es i; metric = em i; n = en i; k = ek i; kind = eh i; sites = first ∷ [] })
 
 -- whole cells at the position do not matter

@@ -1,29 +1,28 @@
 -- Site-symmetry groups: they are groups, have at most 40,000 operations, and allow the moments of their atoms.
-use Rattle.std.proofs.Common.{◌≡◌, refl, sym, ap, subst, ◌∙◌, ◌⊎◌, inl, inr, ℕ, zero, suc, ◌+◌, ◌*◌, ◌<◌, ◌≤◌, [], ◌∷◌, List, length, map, arith}
+use Rattle.std.proofs.Common.{◌≡◌, refl, sym, ap, subst, ◌∙◌, ℕ, zero, suc, ◌+◌, ◌*◌, ◌<◌, ◌≤◌, [], ◌∷◌, List, length, arith}
 use Rattle.std.specs.Prelude.{ℤ, pos, negsuc, slice_get, Some}
 use Rattle.std.proofs.lemmas.Int.{ints}
-use Rattle.std.proofs.lemmas.List.{length-map}
 use Rattle.ring.specs.Size.{AtMost}
+use Rattle.lists.specs.Increasing.{IsMember}
+use Rattle.lists.proofs.Counting.{few_by_numbers}
+use Rattle.lists.proofs.Members.{member_at}
+use Rattle.lists.proofs.Increasing.{increasing_distinct}
 use Rattle.crystal_spec.specs.declared.MomentKind.{MomentKind}
 use Rattle.crystal_spec.specs.declared.Sign.{Sign}
 use Rattle.crystal_spec.specs.declared.Sign.TheVariants.{Same, Reversed}
 use Rattle.crystal_spec.specs.Matrices.{Triple, Matrix, image, difference}
 use Rattle.crystal_spec.specs.Moments.{turn_matrix}
 use Rattle.crystal_spec.specs.Crystals.{Site, Structure, position_after, moment_after}
-use Rattle.crystal_spec.specs.Increasing.{IsMember, IsDistinct}
 use Rattle.crystal_spec.specs.Operations.{Operation, ListsAll, compare_of, sign_factor}
 use Rattle.crystal_spec.specs.Cells.{DiffersByCells, HasOneAtomEach}
 use Rattle.crystal_spec.proofs.Entrywise.{matrix_same}
 use Rattle.crystal_spec.proofs.Images.{occupied_itself}
 use Rattle.crystal_spec.proofs.Moments.{moment_after-identity}
 use Rattle.crystal_spec.proofs.Ordered.{compare_total}
-use Rattle.crystal.specs.Bounds.{EntriesAtMost}
+use Rattle.matrix3.specs.Bounds.{EntriesAtMost}
 use Rattle.basis_spec.specs.Bases.{SameCrystal}
-use Rattle.basis_spec.proofs.Counting.{length_le, mapped_once}
-use Rattle.basis_spec.proofs.FirstAtoms.{mapped_from}
 use Rattle.basis_spec.proofs.PrimitiveCell.{differs_sym, differs_trans}
 use Rattle.basis_spec.proofs.PureTranslations.{translations_same}
-use Rattle.basis_spec.proofs.TranslationLists.{increasing_distinct}
 use Rattle.op_group.specs.Composition.{identity_operation}
 use Rattle.op_group.specs.Groups.{IsGroupModulo}
 use Rattle.op_group.specs.Lists.{AllWithinCell}
@@ -31,7 +30,6 @@ use Rattle.op_group.proofs.Composing.{composed_moment}
 use Rattle.site_orbits.specs.Orbits.{Carries, ListsSite}
 use Rattle.site_orbits.proofs.Equivalence.{carries_composed, identity_carries, carries_back}
 use Rattle.moment_space.specs.Projectors.{IsAllowed, HaveSmallMatrices}
-use Rattle.moment_space.proofs.Ranges.{member_at_number}
 use Rattle.moment_space.proofs.Carrying.{own_translation}
 
 module _ (n : ℕ) (os : List Operation) (q : Triple) (site : List Operation) (lists : ListsSite n os q site) where
@@ -148,34 +146,6 @@ below : ℕ → List ℕ
 below zero = []
 below (suc n) = n ∷ below n
 
-member_below : (k n : ℕ) → k < n → IsMember k (below n)
-unfolding below
-member_below k zero h = absurd (omega (arith, h))
-member_below k (suc n) h = by (last_or_before k n h) (member_below k n)
-  where
-    last_or_before : (k n : ℕ) → k < suc n → (k < n) ⊎ (k ≡ n)
-    last_or_before k n h = grind arith
-
-    by : (k < n) ⊎ (k ≡ n) → (k < n → IsMember k (below n)) → (k ≡ n) ⊎ IsMember k (below n)
-    by (inl l) rec = inr (rec l)
-    by (inr e) rec = inl e
-
-length_below : (n : ℕ) → length (below n) ≡ n
-unfolding below
-length_below zero = refl
-length_below (suc n) = ap suc (length_below n)
-
--- a list without repeats whose members have different numbers below n has at most n members
-few_by_numbers : {X : Type 0} (f : X → ℕ) (n : ℕ) (xs : List X) → IsDistinct xs → ((x : X) → IsMember x xs → f x < n) → ((x y : X) → IsMember x xs → IsMember y xs → f x ≡ f y → x ≡ y) → length xs ≤ n
-few_by_numbers {X} f n xs once small one =
-    let p : length (map f xs) ≤ length (below n) = length_le (map f xs) (below n) (mapped_once f xs once one) there in
-    let e = length_below n in
-    let m = length-map xs f in
-    omega (arith, p, e, m)
-  where
-    there : (k : ℕ) → IsMember k (map f xs) → IsMember k (below n)
-    there k m = let r = mapped_from f k xs m in member_below k n (subst (λ (i : ℕ). i < n) (sym r.is) (small r.item r.of_list))
-
 -- two operations of one matrix that carry a position to itself have translation parts that differ by whole cells
 fixed_translations : (n : ℕ) (q : Triple) (a b : Operation) → a.matrix ≡ b.matrix → Carries n a q q → Carries n b q q → DiffersByCells n a.translation b.translation
 fixed_translations n q a b e h k =
@@ -203,7 +173,7 @@ own_moment c b r os site same one all i a at lists o m =
     let fixed = (lists.exact o).0 m in
     let q = image r a.position in
     let v = image (turn_matrix c.kind r) a.moment in
-    let from = (same.crystal a.species a.position a.moment).0 (occupied_itself c a (member_at_number c.sites i a at)) in
+    let from = (same.crystal a.species a.position a.moment).0 (occupied_itself c a (member_at c.sites i a at)) in
     let to = (((all.exact o).0 fixed.0).keeps.crystal a.species q v).0 from in
     let there : DiffersByCells b.n (position_after o.matrix o.translation q) to.site.position = record { cells = to.cells; is = to.same_position } in
     let here : DiffersByCells b.n q from.site.position = record { cells = from.cells; is = from.same_position } in

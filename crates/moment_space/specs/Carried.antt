@@ -7,10 +7,10 @@
 --   HasReplaced .. olds c f  f is the cell c with atoms that are so in place of the old ones
 --   started c first          the cell c with the first of its names and this atom alone
 use Rattle.std.specs.Prelude.{◌≡◌, ◌⊎◌, ℕ, pos, ◌*ℤ◌, List, [], ◌∷◌, take, slice_get, Some}
+use Rattle.lists.specs.Increasing.{IsMember}
 use Rattle.crystal_spec.specs.declared.MomentKind.{MomentKind}
 use Rattle.crystal_spec.specs.Matrices.{Triple, determinant}
 use Rattle.crystal_spec.specs.Crystals.{Site, Structure, moment_after}
-use Rattle.crystal_spec.specs.Increasing.{IsMember}
 use Rattle.crystal_spec.specs.Operations.{Operation, sign_factor}
 use Rattle.site_orbits.specs.Orbits.{Carries, IsAlike}
 

@@ -10,11 +10,11 @@
 --   AllowsOwnMoment c r i site     the moment of the atom number i of c is allowed
 --   IsKeptBy os f                  each operation of os keeps the crystal of f
 use Rattle.std.specs.Prelude.{◌≡◌, ℕ, List, [], ◌∷◌, slice_get, Some}
+use Rattle.lists.specs.Increasing.{IsMember}
 use Rattle.crystal_spec.specs.declared.MomentKind.{MomentKind}
 use Rattle.crystal_spec.specs.Matrices.{Triple, Matrix, image}
 use Rattle.crystal_spec.specs.Moments.{turn_matrix}
 use Rattle.crystal_spec.specs.Crystals.{Site, Structure, Keeps, moment_after}
-use Rattle.crystal_spec.specs.Increasing.{IsMember}
 use Rattle.crystal_spec.specs.Operations.{Operation, sign_factor}
 use Rattle.site_orbits.specs.Orbits.{Carries, IsAlike, ListsSite}
 use Rattle.moment_space.specs.Projectors.{IsAllowed}

@@ -16,16 +16,16 @@ use Rattle.std.specs.Prelude.{◌≡◌, ℕ, pos, ◌*◌, ◌<ℤ◌, if◌the
 use Rattle.ring.specs.Ring.{Ops, int_ops}
 use Rattle.ring.specs.Size.{AtMost}
 use Rattle.numbers.specs.Fraction.{Fraction, fraction_ops, whole, quotient}
+use Rattle.lists.specs.Increasing.{IsMember}
 use Rattle.matrix3.specs.declared.matrix.Mat3.{Mat3}
-use Rattle.matrix3.specs.Matrices.{EachEntry, matrix_map, vector_map}
+use Rattle.matrix3.specs.Matrices.{EachEntry, matrix_map, vector_map, matrix_sum}
 use Rattle.matrix3.specs.Matrices as formulas
 use Rattle.crystal_spec.specs.declared.MomentKind.{MomentKind}
 use Rattle.crystal_spec.specs.Matrices.{Triple, Matrix}
 use Rattle.crystal_spec.specs.Moments.{moment_matrix}
 use Rattle.crystal_spec.specs.Crystals.{moment_after}
-use Rattle.crystal_spec.specs.Increasing.{IsMember}
 use Rattle.crystal_spec.specs.Operations.{Operation, sign_factor}
-use Rattle.crystal.specs.Bounds.{EntriesAtMost}
+use Rattle.matrix3.specs.Bounds.{EntriesAtMost}
 
 -- each operation of the list carries the moment to itself
 abbrev pub IsAllowed : MomentKind → List Operation → Triple → Type 0
@@ -37,20 +37,6 @@ matrix_of kind o = moment_matrix kind o.matrix (sign_factor o.sign)
 
 module _ {R : Type 0} (o : Ops R) where
   open o use {◌⊕◌}
-
-  -- the sum of two matrices
-  abbrev pub matrix_sum : Mat3 R → Mat3 R → Mat3 R
-  matrix_sum a b = record {
-    a11 = a.a11 ⊕ b.a11;
-    a12 = a.a12 ⊕ b.a12;
-    a13 = a.a13 ⊕ b.a13;
-    a21 = a.a21 ⊕ b.a21;
-    a22 = a.a22 ⊕ b.a22;
-    a23 = a.a23 ⊕ b.a23;
-    a31 = a.a31 ⊕ b.a31;
-    a32 = a.a32 ⊕ b.a32;
-    a33 = a.a33 ⊕ b.a33;
-  }
 
   -- the sum of the entries on the diagonal
   abbrev pub trace : Mat3 R → R

@@ -6,7 +6,7 @@ ghost use Rattle.numbers.specs.Fraction.{fraction_ops, whole};
 ghost use Rattle.exact_num.specs.Meanings.{fraction_of};
 ghost use Rattle.matrix3.specs.Matrices.{EachEntry, matrix_map, dot};
 ghost use Rattle.crystal_spec.specs.Moments.{IsOfKind};
-ghost use Rattle.crystal.specs.Bounds.{CoordinatesAtMost};
+ghost use Rattle.matrix3.specs.Bounds.{CoordinatesAtMost};
 ghost use Rattle.moment_space.specs.Projectors.{HasSmallParts, IsProjected};
 
 use crystal::MomentKind;

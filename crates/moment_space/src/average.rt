@@ -5,12 +5,12 @@ ghost use Rattle.ring.specs.Ring.{int_ops};
 ghost use Rattle.ring.specs.Size.{AtMost};
 ghost use Rattle.numbers.specs.Fraction.{lowest, fraction_ops};
 ghost use Rattle.exact_num.specs.Meanings.{fraction_of};
-ghost use Rattle.matrix3.specs.Matrices.{EachEntry, matrix_map, product, scalar};
+ghost use Rattle.matrix3.specs.Matrices.{EachEntry, matrix_map, product, scalar, matrix_sum};
 ghost use Rattle.crystal_spec.specs.Matrices.{Triple, determinant};
-ghost use Rattle.crystal.specs.Bounds.{EntriesAtMost};
+ghost use Rattle.matrix3.specs.Bounds.{EntriesAtMost};
 ghost use Rattle.op_group.specs.Views.{operation_of};
 ghost use Rattle.op_group.specs.Groups.{IsGroupModulo};
-ghost use Rattle.moment_space.specs.Projectors.{IsAllowed, HaveSmallMatrices, HasSmallParts, IsProjected, IsAllowedCount, matrix_of, matrix_sum, moment_sum as sum_of_matrices, projector_of};
+ghost use Rattle.moment_space.specs.Projectors.{IsAllowed, HaveSmallMatrices, HasSmallParts, IsProjected, IsAllowedCount, matrix_of, moment_sum as sum_of_matrices, projector_of};
 ghost use Rattle.moment_space.specs.Counted.{counted_part, IsCounted};
 
 use crate::allowed::Allowed;
@@ -129,13 +129,6 @@ fn counted_part(sum: &Mat3<Int>, kind: MomentKind) -> Int
     }
 }
 
-/// A natural number as an exact integer.
-fn whole(number: u32) -> Int
-    ensures { result ≡ pos number }
-{
-    Int::new(number as i128).unwrap()
-}
-
 /// The quotient of a number and one that divides it.
 fn quotient(a: Int, b: Int) -> Int
     requires nonzero { b ≢ pos 0 }
@@ -160,7 +153,7 @@ fn allowed_count(sum: &Mat3<Int>, kind: MomentKind, count: u32) -> u32
     requires counted { IsCounted (pos count) (counted_part kind sum.now) }
     ensures { counted_part kind sum.now ≡ pos result *ℤ pos count }
 {
-    natural(quotient(counted_part(sum, kind), whole(count)))
+    natural(quotient(counted_part(sum, kind), Int::from(count)))
 }
 
 /// Which moments a site allows whose site-symmetry group this is: those that each of its operations carries to itself.

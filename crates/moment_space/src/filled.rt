@@ -1,28 +1,29 @@
 // Cells that are filled with a moment and with those to which operations carry it.
 
 ghost use Rattle.std.specs.Prelude.{◌≡◌, ◌↔◌, ◌<◌, ◌≤◌, ◌*◌, ◌^◌, ◌*ℤ◌, pos, length, take, IsTrue, IsSome, IfOk, IfSome, IfNone, OnOk};
-ghost use Rattle.crystal_spec.specs.Increasing.{IsDistinct};
+ghost use Rattle.lists.specs.Increasing.{IsDistinct};
 ghost use Rattle.crystal_spec.specs.Matrices.{determinant};
 ghost use Rattle.crystal_spec.specs.Moments.{IsOfKind};
 ghost use Rattle.crystal_spec.specs.Crystals.{moment_after};
 ghost use Rattle.crystal_spec.specs.Operations.{ListsAll, IsWithinCell, sign_factor};
-ghost use Rattle.crystal.specs.Views.{site_of, triple_of};
-ghost use Rattle.crystal.specs.Bounds.{EntriesAtMost, CoordinatesAtMost};
+ghost use Rattle.crystal.specs.Views.{site_of};
+ghost use Rattle.positions.specs.Positions.{triple_of};
+ghost use Rattle.matrix3.specs.Bounds.{EntriesAtMost, CoordinatesAtMost};
 ghost use Rattle.crystal.specs.Cells.{IsSiteOf};
 ghost use Rattle.basis_spec.specs.Bases.{cell_in_basis, IsPrimitiveIn};
-ghost use Rattle.op_group.specs.Views.{operation_of, translation_of};
+ghost use Rattle.op_group.specs.Views.{operation_of};
 ghost use Rattle.site_orbits.specs.Orbits.{Carries, IsAlike};
 ghost use Rattle.moment_space.specs.Projectors.{IsAllowed, HaveSmallMatrices};
 ghost use Rattle.moment_space.specs.Filled.{IsSiteAt, IsFilledAt, HasOneMomentAt, AllowsOwnMoment, IsKeptBy};
 ghost use Rattle.moment_space.specs.Carried.{HasUnitDeterminants, IsCarriedMoment, ReplacesAt, AreReplaced, HasReplaced, started};
 
 use crate::average::projector;
-use crystal::{Atom, Cell, MOST_NAMES, MomentKind, moment_matrix, translation_onto};
+use crystal::{Atom, Cell, MOST_NAMES, MomentKind, moment_matrix};
 use exact_num::Int;
 use matrix3::Vec3;
 use op_group::{Op, OpList};
+use positions::MatrixModulo;
 use prim_cell::Primitive;
-use site_orbits::place_in_basis;
 use std::alloc::{AllocError, Global};
 
 /// Whether two translation parts are one.
@@ -34,13 +35,15 @@ fn is_same(a: [u32; 3], b: [u32; 3]) -> bool
 
 /// Whether the operation carries the one position to the other, but for whole cells.
 fn carries(op: &Op, from: [u32; 3], onto: [u32; 3], n: u32) -> bool
-    requires small { EntriesAtMost 1 op.now.w }
-    requires within { IsWithinCell n (translation_of op.now.shift) }
+    requires within { IsWithinCell n (triple_of op.now.shift) }
     requires at_least { 1 ≤ n }
     requires at_most { n ≤ 10 ^ 6 }
     ensures { IsTrue result ↔ Carries n (operation_of op.now) (triple_of from) (triple_of onto) }
 {
-    is_same(op.shift, translation_onto(&op.w, from, onto, n))
+    is_same(
+        op.shift,
+        MatrixModulo::new(&op.w, n).translation_onto(from, onto),
+    )
 }
 
 /// The moment to which the operation carries a moment of this kind.
@@ -129,21 +132,6 @@ fn started(alloc: Global, cell: &Cell, first: Atom) -> Result<Cell, AllocError>
     Ok(made)
 }
 
-/// Adds the names of a cell, of which the first is there.
-///
-/// Refuses for want of memory alone.
-fn add_names(made: &mut Cell, cell: &Cell) -> Result<(), AllocError>
-    requires first { made.old.names ≡ take 1 cell.now.names }
-    requires differ { IsDistinct cell.now.names }
-    requires few { length cell.now.names ≤ MOST_NAMES }
-    ensures { OnOk result (made.new ≡ record made.old { names = cell.now.names }) }
-{
-    for species in 1..cell.names() {
-        made.add_name(cell.name(species as u16).copied())?;
-    }
-    Ok(())
-}
-
 /// Adds the atoms of a cell, of which the first is there, each with the moment that it gets.
 ///
 /// Refuses for want of memory alone.
@@ -194,7 +182,7 @@ fn filled(
     let _form = cell.count();
     let first = replaced(cell, 0, list, from, m);
     let mut made = started(alloc, cell, first)?;
-    add_names(&mut made, cell)?;
+    made.add_names_of(cell)?;
     add_atoms(&mut made, cell, list, from, m)?;
     Ok(made)
 }
@@ -237,7 +225,7 @@ pub fn fill(
     if !projector(site, cell.kind()).allows(m) {
         return Ok(None);
     }
-    let place = place_in_basis(prim.back(), cell.atom(atom).place, cell.n());
+    let place = MatrixModulo::new(prim.back(), cell.n()).image(cell.atom(atom).place);
     let made = filled(alloc, prim.cell(), list, place, m)?;
     let _made = made.count();
     Ok(Some(made))

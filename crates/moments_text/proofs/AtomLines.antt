@@ -1,21 +1,13 @@
 -- The lines of the atoms, one after another.
-use Rattle.std.proofs.Common.{◌≡◌, sym, ap, ◌∙◌, ℕ, zero, suc, ◌+◌, List, [], ◌∷◌, ◌++◌, get_or, drop, Some, add-one, append_assoc}
+use Rattle.std.proofs.Common.{◌≡◌, sym, ap, ◌∙◌, ℕ, ◌+◌, List, [], ◌∷◌, ◌++◌, get_or, drop, Some, append_assoc}
 use Rattle.std.specs.Prelude.{slice_get}
 use Rattle.std.proofs.lemmas.Option.{get_or_from_slice_get}
+use Rattle.lists.proofs.Walks.{drop_at}
 use Rattle.crystal_spec.specs.declared.MomentKind.{MomentKind}
 use Rattle.crystal_spec.specs.Crystals.{Site}
 use Rattle.site_orbits.specs.Entries.{AtomOrbit}
 use Rattle.moment_space.specs.Projectors.{AllowedMoments}
 use Rattle.moments_text.specs.MomentsText.{atom_text, atom_lines, allowed_by}
-
-drop_suc : {X : Type 0} (xs : List X) (i : ℕ) (x : X) → slice_get xs i ≡ Some x → drop i xs ≡ x ∷ drop (suc i) xs
-drop_suc [] i x e = absurd (cc e)
-drop_suc (y ∷ ys) zero x e = let h : Some y ≡ Some x = e in ap (λ z. z ∷ ys) (cc h)
-drop_suc (y ∷ ys) (suc i) x e = drop_suc ys i x e
-
--- the elements from number i on are that one and those behind it
-drop_at : {X : Type 0} (xs : List X) (i : ℕ) (x : X) → slice_get xs i ≡ Some x → drop i xs ≡ x ∷ drop (i + 1) xs
-drop_at xs i x e = drop_suc xs i x e ∙ ap (λ (k : ℕ). x ∷ drop k xs) (sym (add-one i))
 
 module _ (kind : MomentKind) (names : List (List ℕ)) where
   lines_at : (k : ℕ) (sites : List Site) (orbits : List AtomOrbit) (a : Site) (o : AtomOrbit) (more : List Site) (others : List AtomOrbit) → sites ≡ a ∷ more → orbits ≡ o ∷ others →

@@ -1,3 +1,3 @@
-pub mod AllowedCounts
-pub mod AtomLines
+mod AllowedCounts
+mod AtomLines
 mod KnownValues

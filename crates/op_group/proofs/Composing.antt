@@ -22,8 +22,9 @@ use Rattle.crystal_spec.specs.Operations.{Operation, IsWithinCell, sign_factor}
 use Rattle.crystal_spec.proofs.Identities.{by_integers, by_triples, by_matrices}
 use Rattle.crystal_spec.proofs.Isometries.{sign_squared}
 use Rattle.crystal_spec.proofs.Moments.{moment_after-product}
-use Rattle.op_group.specs.Composition.{ReducesTo, identity_operation, IsComposed, IsInverseModulo}
-use Rattle.op_group.proofs.Reducing.{reduces_once}
+use Rattle.op_group.specs.Composition.{identity_operation, IsComposed, IsInverseModulo}
+use Rattle.positions.specs.Positions.{IsModulo, modulo}
+use Rattle.positions.proofs.Residues.{modulo_once, is_modulo}
 
 -- ---- positions and moments
 
@@ -74,7 +75,7 @@ sign_of_factor Reversed Reversed e = refl
 pub composed_once : (n : ℕ) (a b q r : Operation) → IsComposed n a b q → IsComposed n a b r → q ≡ r
 composed_once n a b q r h k =
     let m = h.matrix ∙ sym k.matrix in
-    let t = reduces_once n (position_after b.matrix b.translation a.translation) q.translation r.translation h.translation k.translation in
+    let t = modulo_once n (position_after b.matrix b.translation a.translation) q.translation r.translation h.translation k.translation in
     let s = sign_of_factor q.sign r.sign (h.sign ∙ sym k.sign) in
     λ i. record { matrix = m i; translation = t i; sign = s i }
 
@@ -184,6 +185,12 @@ opposites_differ x r =
     let v = vector_of_variables 3 in
     by_triples (coordinates x ++ coordinates r) (formulas.sum_of quoted u v) (formulas.difference quoted v (formulas.multiple quoted (con (negsuc 0)) u)) refl
 
+-- 0 - x = -x
+none_less : (x : Triple) → difference origin x ≡ multiple (negsuc 0) x
+none_less x =
+    let u = vector_of_variables 0 in
+    by_triples (coordinates x) (formulas.difference quoted (record { x = con (pos 0); y = con (pos 0); z = con (pos 0) }) u) (formulas.multiple quoted (con (negsuc 0)) u) refl
+
 -- r - (r + n k) = 0 + n (-k)
 cells_left : (r k : Triple) (n : ℤ) → difference r (sum_of r (multiple n k)) ≡ sum_of origin (multiple n (multiple (negsuc 0) k))
 cells_left r k n =
@@ -222,7 +229,7 @@ nothing_left t =
     by_triples (coordinates t) (formulas.difference quoted x (formulas.image quoted (formulas.scalar quoted (con (pos 1))) x)) (record { x = con (pos 0); y = con (pos 0); z = con (pos 0) }) refl
 
 -- the inverse matrix, with the opposite of the translation part that it turns and the same sign, undoes an operation
-pub inverse_is : (n : ℕ) (a b : Operation) → 1 ≤ n → IsInverse int_ops a.matrix b.matrix → ReducesTo n (multiple (negsuc 0) (image b.matrix a.translation)) b.translation → b.sign ≡ a.sign → IsInverseModulo n a b
+pub inverse_is : (n : ℕ) (a b : Operation) → 1 ≤ n → IsInverse int_ops a.matrix b.matrix → IsModulo n (multiple (negsuc 0) (image b.matrix a.translation)) b.translation → b.sign ≡ a.sign → IsInverseModulo n a b
 inverse_is n a b h m f s = record {
   within = f.within;
   after = record {
@@ -248,6 +255,10 @@ inverse_is n a b h m f s = record {
     sign = sym (ap (λ (t : Sign). sign_factor a.sign *ℤ sign_factor t) s ∙ sign_squared a.sign);
   };
 }
+
+-- the same of the translation part that the inverse matrix carries onto the origin
+pub inverse_onto : (n : ℕ) (a b : Operation) → 1 ≤ n → IsInverse int_ops a.matrix b.matrix → b.translation ≡ modulo n (difference origin (image b.matrix a.translation)) → b.sign ≡ a.sign → IsInverseModulo n a b
+inverse_onto n a b h m e s = inverse_is n a b h m (is_modulo n (multiple (negsuc 0) (image b.matrix a.translation)) b.translation h (e ∙ ap (modulo n) (none_less (image b.matrix a.translation)))) s
 
 -- there is one operation that undoes an operation
 pub inverse_once : (n : ℕ) (a b d : Operation) → IsInverseModulo n a b → IsInverseModulo n a d → b ≡ d

@@ -7,13 +7,12 @@
 use Rattle.std.proofs.Common.{◌≡◌, refl, sym, ap, ap₂, subst, ◌∙◌, ℕ, ◌≤◌, [], ◌∷◌, ◌++◌, List}
 use Rattle.std.specs.Prelude.{ℤ, pos, negsuc, ◌*ℤ◌}
 use Rattle.ring.specs.Ring.{int_ops, Expr, quoted, var, con, ◌:*◌}
-use Rattle.numbers.specs.Residue.{residue}
+use Rattle.lists.specs.Increasing.{IsMember}
 use Rattle.matrix3.specs.Matrices.{entries, coordinates, matrix_of_variables, vector_of_variables, matrix_map, vector_map}
 use Rattle.matrix3.specs.Matrices as formulas
 use Rattle.matrix3.specs.Inverse.{IsInverse}
 use Rattle.crystal_spec.specs.declared.Sign.{Sign}
 use Rattle.crystal_spec.specs.declared.Sign.TheVariants.{Same, Reversed}
-use Rattle.crystal_spec.specs.Increasing.{IsMember}
 use Rattle.crystal_spec.specs.Matrices.{Matrix, Triple, determinant, adjugate, identity, image, multiple, product, transposed, sum_of}
 use Rattle.crystal_spec.specs.Crystals.{Structure, IsPositive, Occupied, KeepsMetric, Keeps, position_after, moment_after}
 use Rattle.crystal_spec.specs.Operations.{Operation, IsSymmetryOperation, ListsAll, ListsAllSame, sign_factor}
@@ -23,7 +22,8 @@ use Rattle.crystal_spec.proofs.Moments.{moment_after-identity}
 use Rattle.crystal_spec.proofs.Keeping.{two_cells}
 use Rattle.op_group.specs.Composition.{identity_operation, IsComposed, IsInverseModulo}
 use Rattle.op_group.specs.Groups.{IsGroupModulo}
-use Rattle.op_group.proofs.Reducing.{reduces}
+use Rattle.positions.specs.Positions.{modulo}
+use Rattle.positions.proofs.Residues.{is_modulo}
 use Rattle.op_group.proofs.Composing.{composed_position, composed_moment, composed_once, origin_within, inverse_is, inverse_once}
 
 -- ---- members of a group
@@ -56,11 +56,11 @@ sign_product_is Reversed Reversed = refl
 
 -- the operation that does the one and after it the other
 pub composition : ℕ → Operation → Operation → Operation
-composition n a b = record { matrix = product b.matrix a.matrix; translation = vector_map (residue n) (position_after b.matrix b.translation a.translation); sign = sign_product a.sign b.sign }
+composition n a b = record { matrix = product b.matrix a.matrix; translation = modulo n (position_after b.matrix b.translation a.translation); sign = sign_product a.sign b.sign }
 
 pub composition_is : (n : ℕ) (a b : Operation) → 1 ≤ n → IsComposed n a b (composition n a b)
 unfolding composition
-composition_is n a b h = record { matrix = refl; translation = reduces n (position_after b.matrix b.translation a.translation) h; sign = sign_product_is a.sign b.sign }
+composition_is n a b h = record { matrix = refl; translation = is_modulo n (position_after b.matrix b.translation a.translation) _ h refl; sign = sign_product_is a.sign b.sign }
 
 -- the adjugate times the determinant
 abbrev inverse_matrix : Matrix → Matrix
@@ -79,14 +79,14 @@ inverse_matrix_is w one =
 
 -- the operation that undoes this one
 pub inversion : ℕ → Operation → Operation
-inversion n a = record { matrix = inverse_matrix a.matrix; translation = vector_map (residue n) (multiple (negsuc 0) (image (inverse_matrix a.matrix) a.translation)); sign = a.sign }
+inversion n a = record { matrix = inverse_matrix a.matrix; translation = modulo n (multiple (negsuc 0) (image (inverse_matrix a.matrix) a.translation)); sign = a.sign }
 
 pub inversion_is : (n : ℕ) (a : Operation) → 1 ≤ n → determinant a.matrix *ℤ determinant a.matrix ≡ pos 1 → IsInverseModulo n a (inversion n a)
 unfolding inversion
 inversion_is n a h one =
-    inverse_is n a (record { matrix = inverse_matrix a.matrix; translation = vector_map (residue n) (multiple (negsuc 0) (image (inverse_matrix a.matrix) a.translation)); sign = a.sign }) h
+    inverse_is n a (record { matrix = inverse_matrix a.matrix; translation = modulo n (multiple (negsuc 0) (image (inverse_matrix a.matrix) a.translation)); sign = a.sign }) h
     (inverse_matrix_is a.matrix one)
-    (reduces n (multiple (negsuc 0) (image (inverse_matrix a.matrix) a.translation)) h) refl
+    (is_modulo n (multiple (negsuc 0) (image (inverse_matrix a.matrix) a.translation)) _ h refl) refl
 
 -- ---- whole cells do not matter
 

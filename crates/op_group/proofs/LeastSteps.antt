@@ -2,20 +2,20 @@
 --
 -- A member of the list is within one cell, so it is in the lattice. So is a whole cell along an axis. The least step so far
 -- is at most those of the list that are not still to come.
-use Rattle.std.proofs.Common.{◌≡◌, refl, sym, ap, subst, ◌∙◌, ◌⊎◌, inl, inr, ℕ, zero, suc, ◌+◌, ◌<◌, ◌≤◌, List, [], ◌∷◌, drop, add-one, arith}
-use Rattle.std.specs.Prelude.{ℤ, pos, ◌*ℤ◌, ◌≤ℤ◌, ◌<ℤ◌, slice_get, Some}
+use Rattle.std.proofs.Common.{◌≡◌, refl, sym, ap, subst, ◌⊎◌, inl, inr, ℕ, ◌<◌, ◌≤◌, List, [], ◌∷◌, arith}
+use Rattle.std.specs.Prelude.{ℤ, pos, ◌*ℤ◌, ◌≤ℤ◌, ◌<ℤ◌}
 use Rattle.std.proofs.lemmas.Int.{ints}
 use Rattle.ring.specs.Ring.{var, con, ◌:*◌}
+use Rattle.lists.specs.Increasing.{IsMember}
 use Rattle.crystal_spec.specs.Matrices.{Triple}
-use Rattle.crystal_spec.specs.Increasing.{IsMember}
 use Rattle.crystal_spec.specs.Operations.{Operation, IsWithinCell}
 use Rattle.crystal_spec.proofs.Entrywise.{triple_same}
 use Rattle.crystal_spec.proofs.Identities.{by_integers}
-use Rattle.basis_spec.specs.Positions.{origin, residue}
+use Rattle.positions.specs.Positions.{origin, modulo}
 use Rattle.basis_spec.specs.Translations.{pure_translation}
 use Rattle.basis_spec.specs.StepBases.{InLattice, IsClosed}
 use Rattle.basis_spec.proofs.MatrixLaws.{axis1, axis2, axis3}
-use Rattle.basis_spec.proofs.Residues.{residue_away, residue_within}
+use Rattle.positions.proofs.Residues.{modulo_away, modulo_within}
 use Rattle.basis_spec.proofs.PureTranslations.{translations_same}
 use Rattle.basis_spec.proofs.StepLists.{list_lattice}
 use Rattle.op_group.specs.Lists.{AllWithinCell}
@@ -23,31 +23,14 @@ use Rattle.op_group.specs.Steps.{IsAlong, along, whole_cell, IsStep, IsLeastStep
 use Rattle.op_group.specs.declared.steps.Axis.{Axis}
 use Rattle.op_group.specs.declared.steps.Axis.TheVariants.{X, Y, Z}
 
--- ---- places of a list
-
--- the operation at a place is a member
-pub member_at : (xs : List Operation) (i : ℕ) (x : Operation) → slice_get xs i ≡ Some x → IsMember x xs
-member_at [] i x e = absurd (cc e)
-member_at (y ∷ ys) zero x e = let is : x ≡ y = cc e in inl is
-member_at (y ∷ ys) (suc i) x e = inr (member_at ys i x e)
-
-drop_suc : (xs : List Operation) (i : ℕ) (x : Operation) → slice_get xs i ≡ Some x → drop i xs ≡ x ∷ drop (suc i) xs
-drop_suc [] i x e = absurd (cc e)
-drop_suc (y ∷ ys) zero x e = let is : y ≡ x = cc e in ap (λ z. z ∷ ys) is
-drop_suc (y ∷ ys) (suc i) x e = drop_suc ys i x e
-
--- it is the first of what is left from there on
-pub drop_at : (xs : List Operation) (i : ℕ) (x : Operation) → slice_get xs i ≡ Some x → drop i xs ≡ x ∷ drop (i + 1) xs
-drop_at xs i x e = drop_suc xs i x e ∙ ap (λ (k : ℕ). x ∷ drop k xs) (sym (add-one i))
-
 -- ---- members and the lattice
 
 -- a list with (0, 0, 0) within one cell has a positive n
 pub some_cells : (n : ℕ) (os : List Operation) → AllWithinCell n os → IsClosed n os → pos 0 <ℤ pos n
 some_cells n os within closed = (within (pure_translation origin) closed.zero_in).x.1
 
-residue_itself : (n : ℕ) (t : Triple) → pos 0 <ℤ pos n → IsWithinCell n t → t ≡ residue n t
-residue_itself n t some h = translations_same n t (residue n t) h (residue_within n t some) (residue_away n t some)
+residue_itself : (n : ℕ) (t : Triple) → pos 0 <ℤ pos n → IsWithinCell n t → t ≡ modulo n t
+residue_itself n t some h = translations_same n t (modulo n t) h (modulo_within n t some) (modulo_away n t some)
 
 -- a pure translation of the list is in the lattice
 pub in_lattice : (n : ℕ) (os : List Operation) (t : Triple) → AllWithinCell n os → pos 0 <ℤ pos n → IsMember (pure_translation t) os → InLattice n os t

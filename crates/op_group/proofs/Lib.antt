@@ -1,13 +1,12 @@
 pub mod OrderLemmas
 pub mod Places
-pub mod Sorting
-pub mod Reducing
+mod Sorting
 pub mod Composing
 pub mod GroupLaws
-pub mod TriangularMatrices
-pub mod LeastSteps
-pub mod TriangularBases
-pub mod PureTranslations
-pub mod StepMatrices
+mod TriangularMatrices
+mod LeastSteps
+mod TriangularBases
+mod PureTranslations
+mod StepMatrices
 pub mod Searching
 mod KnownValues

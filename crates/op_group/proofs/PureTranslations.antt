@@ -4,8 +4,8 @@ use Rattle.std.specs.Prelude.{◌↔◌}
 use Rattle.std.specs.declared.cmp.Ordering.{Ordering}
 use Rattle.std.specs.declared.cmp.Ordering.TheVariants.{Less, Equal, Greater}
 use Rattle.std.proofs.lemmas.Cmp.{tied_itself}
+use Rattle.lists.specs.Increasing.{IsMember, IsDistinct}
 use Rattle.crystal_spec.specs.Matrices.{Triple}
-use Rattle.crystal_spec.specs.Increasing.{IsMember, IsDistinct}
 use Rattle.crystal_spec.specs.Operations.{Operation, compare_of}
 use Rattle.crystal_spec.proofs.Ordered.{compare_total, compare_exact}
 use Rattle.basis_spec.specs.Translations.{pure_translation}

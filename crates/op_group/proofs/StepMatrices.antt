@@ -4,9 +4,10 @@ use Rattle.std.proofs.Common.{◌≡◌, sym, ap, subst, ◌∙◌, ℕ, ◌^◌
 use Rattle.std.specs.Prelude.{ℤ, pos, negsuc, ◌*ℤ◌, ◌<ℤ◌}
 use Rattle.std.proofs.lemmas.Int.{ints}
 use Rattle.ring.specs.Size.{AtMost}
+use Rattle.lists.specs.Increasing.{IsIncreasing}
+use Rattle.lists.proofs.Increasing.{increasing_distinct}
 use Rattle.matrix3.specs.Matrices.{EachEntry}
 use Rattle.crystal_spec.specs.Matrices.{Matrix, product, image, determinant, adjugate, multiple, identity}
-use Rattle.crystal_spec.specs.Increasing.{IsIncreasing}
 use Rattle.crystal_spec.specs.Operations.{Operation, compare_of}
 use Rattle.crystal_spec.proofs.Ordered.{compare_total}
 use Rattle.basis_spec.specs.Metrics.{matrix_multiple}
@@ -20,7 +21,6 @@ use Rattle.basis_spec.proofs.StepIndex.{index_cube}
 use Rattle.basis_spec.proofs.StepCount.{count_is_index}
 use Rattle.basis_spec.proofs.StepEntries.{IsFromZeroTo, back_entries, basis_entries, fore_entries}
 use Rattle.basis_spec.proofs.StepLists.{list_lattice}
-use Rattle.basis_spec.proofs.TranslationLists.{increasing_distinct}
 use Rattle.op_group.specs.Lists.{AllWithinCell, HasOnlyPureTranslations}
 use Rattle.op_group.specs.Steps.{HasInverse}
 use Rattle.op_group.proofs.PureTranslations.{Pure, pure_of}

@@ -11,13 +11,12 @@ use Rattle.crystal_spec.specs.Matrices.{Triple, Matrix, multiple, sum_of}
 use Rattle.crystal_spec.specs.Operations.{Operation}
 use Rattle.crystal_spec.proofs.Entrywise.{triple_same}
 use Rattle.crystal_spec.proofs.Identities.{by_integers}
-use Rattle.basis_spec.specs.Positions.{triple}
+use Rattle.positions.specs.Positions.{triple, triple_of}
 use Rattle.basis_spec.specs.Translations.{pure_translation}
 use Rattle.basis_spec.specs.StepBases.{InLattice, IsClosed, IsLattice, IsLeastPositive, IsStepBasis}
 use Rattle.basis_spec.proofs.StepBases.{multiple_in, taken_away, nothing_off}
 use Rattle.basis_spec.proofs.StepLists.{list_lattice, least_first, least_second, least_third}
 use Rattle.basis_spec.proofs.StepMaking.{is_step_basis}
-use Rattle.op_group.specs.Views.{translation_of}
 use Rattle.op_group.specs.Steps.{along, IsLeastStep, upper_triangular}
 use Rattle.op_group.specs.declared.steps.Axis.TheVariants.{X, Y, Z}
 
@@ -101,13 +100,13 @@ module _ (n : ℕ) (os : List Operation) (some : pos 0 <ℤ pos n) (closed : IsC
       third_column (rest_within v s2 (positive s2 h2.positive)) (rest_within (u + v / s2 * (s1 - x % s1)) s1 (positive s1 h1.positive))
 
 -- the same, of the three steps as the code has them
-pub basis_of_steps : (n : ℕ) (os : List Operation) (closed : IsClosed n os) (t1 t2 t3 : List ℕ) (x3 : ℕ) (r : Matrix) → IsLeastStep n os X (translation_of t1) → IsLeastStep n os Y (translation_of t2) → IsLeastStep n os Z (translation_of t3) →
+pub basis_of_steps : (n : ℕ) (os : List Operation) (closed : IsClosed n os) (t1 t2 t3 : List ℕ) (x3 : ℕ) (r : Matrix) → IsLeastStep n os X (triple_of t1) → IsLeastStep n os Y (triple_of t2) → IsLeastStep n os Z (triple_of t3) →
     x3 ≡ (slice_index t3 0 + slice_index t3 1 / slice_index t2 1 * (slice_index t1 0 - slice_index t2 0 % slice_index t1 0)) % slice_index t1 0 →
     r ≡ upper_triangular (slice_index t1 0) (slice_index t2 0 % slice_index t1 0) (slice_index t2 1) x3 (slice_index t3 1 % slice_index t2 1) (slice_index t3 2) → IsStepBasis (InLattice n os) r
 basis_of_steps n os closed t1 t2 t3 x3 r h1 h2 h3 e f =
     let k1 = subst (IsLeastStep n os X) (triple_same refl h1.is_along.0 h1.is_along.1) h1 in
     let k2 = subst (IsLeastStep n os Y) (triple_same refl refl h2.is_along) h2 in
-    let some = through (along X (translation_of t1)) (pos n) h1.positive h1.at_most in
+    let some = through (along X (triple_of t1)) (pos n) h1.positive h1.at_most in
     subst (IsStepBasis (InLattice n os))
     (sym (f ∙ ap (λ (a : ℕ). upper_triangular (slice_index t1 0) (slice_index t2 0 % slice_index t1 0) (slice_index t2 1) a (slice_index t3 1 % slice_index t2 1) (slice_index t3 2)) e))
     (basis_found n os some closed (slice_index t1 0) (slice_index t2 0) (slice_index t2 1) (slice_index t3 0) (slice_index t3 1) (slice_index t3 2) k1 k2 h3)

@@ -1,19 +1,13 @@
 -- Operations one after the other, with translation parts modulo n.
---   ReducesTo n p q         q is p modulo n: it is within one cell, and p differs from it by whole cells
 --   identity_operation      the operation that leaves all as it is
 --   IsComposed n a b r      r is the operation that does a and after it b
 --   IsInverseModulo n a b   b undoes a, and a undoes b
 use Rattle.std.specs.Prelude.{◌≡◌, ℕ, pos, ◌*ℤ◌}
 use Rattle.crystal_spec.specs.declared.Sign.TheVariants.{Same}
-use Rattle.crystal_spec.specs.Matrices.{Triple, product, identity, multiple, sum_of}
+use Rattle.crystal_spec.specs.Matrices.{product, identity}
 use Rattle.crystal_spec.specs.Crystals.{position_after}
 use Rattle.crystal_spec.specs.Operations.{Operation, IsWithinCell, sign_factor}
-
--- q is from 0 to n - 1 in each coordinate, and p is q and so many whole cells
-pub record ReducesTo (n : ℕ) (p q : Triple) : Type 0 where
-  pub within : IsWithinCell n q
-  pub cells : Triple
-  pub same : p ≡ sum_of q (multiple (pos n) cells)
+use Rattle.positions.specs.Positions.{IsModulo}
 
 -- (I, 0, +1)
 abbrev pub identity_operation : Operation
@@ -22,7 +16,7 @@ identity_operation = record { matrix = identity; translation = record { x = pos 
 -- First (W, w, s) and after it (V, v, t) is (V W, V w + v modulo n, t s).
 pub record IsComposed (n : ℕ) (first next result : Operation) : Type 0 where
   pub matrix : result.matrix ≡ product next.matrix first.matrix
-  pub translation : ReducesTo n (position_after next.matrix next.translation first.translation) result.translation
+  pub translation : IsModulo n (position_after next.matrix next.translation first.translation) result.translation
   pub sign : sign_factor result.sign ≡ sign_factor next.sign *ℤ sign_factor first.sign
 
 -- each after the other is the identity, and the translation part of b is within one cell

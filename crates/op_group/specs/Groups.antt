@@ -1,7 +1,7 @@
 -- Lists of operations that are a group modulo whole cells.
 --   IsGroupModulo n os   os has the identity, with each two operations the one after the other, and with each its inverse
 use Rattle.std.specs.Prelude.{ℕ, List}
-use Rattle.crystal_spec.specs.Increasing.{IsMember}
+use Rattle.lists.specs.Increasing.{IsMember}
 use Rattle.crystal_spec.specs.Operations.{Operation}
 use Rattle.op_group.specs.Lists.{AllWithinCell}
 use Rattle.op_group.specs.Composition.{identity_operation, IsComposed, IsInverseModulo}

@@ -4,7 +4,7 @@
 --   IsOperationList n os         they are, and the operations are strictly increasing
 --   HasOnlyPureTranslations os   each operation is (I, t, +1)
 use Rattle.std.specs.Prelude.{◌≡◌, ℕ, List}
-use Rattle.crystal_spec.specs.Increasing.{IsIncreasing, IsMember}
+use Rattle.lists.specs.Increasing.{IsIncreasing, IsMember}
 use Rattle.crystal_spec.specs.Operations.{Operation, compare_of, IsWithinCell}
 use Rattle.basis_spec.specs.Translations.{pure_translation}
 

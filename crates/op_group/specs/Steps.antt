@@ -9,12 +9,12 @@
 --   HasInverse n b            n times the inverse of the upper triangular matrix b is a small matrix of integers
 use Rattle.std.specs.Prelude.{◌≡◌, ℕ, ℤ, pos, ◌^◌, ◌≤ℤ◌, ◌<ℤ◌, List}
 use Rattle.ring.specs.Size.{AtMost}
+use Rattle.lists.specs.Increasing.{IsMember}
 use Rattle.matrix3.specs.Matrices.{EachEntry}
 use Rattle.crystal_spec.specs.Matrices.{Triple, Matrix, product, identity}
-use Rattle.crystal_spec.specs.Increasing.{IsMember}
 use Rattle.crystal_spec.specs.Operations.{Operation}
 use Rattle.basis_spec.specs.Metrics.{matrix_multiple}
-use Rattle.basis_spec.specs.Positions.{triple}
+use Rattle.positions.specs.Positions.{triple}
 use Rattle.basis_spec.specs.Translations.{pure_translation}
 use Rattle.basis_spec.specs.StepBases.{InLattice}
 use Rattle.op_group.specs.declared.steps.Axis.{Axis}

@@ -11,102 +11,13 @@ ghost use Rattle.matrix3.specs.Inverse.{IsUnit};
 ghost use Rattle.crystal_spec.specs.Matrices.{determinant, image, multiple};
 ghost use Rattle.crystal_spec.specs.Crystals.{position_after};
 ghost use Rattle.crystal_spec.specs.Operations.{sign_factor};
-ghost use Rattle.op_group.specs.Views.{operation_of, translation_of};
-ghost use Rattle.op_group.specs.Composition.{ReducesTo, IsComposed, IsInverseModulo};
+ghost use Rattle.op_group.specs.Views.{operation_of};
+ghost use Rattle.positions.specs.Positions.{triple_of, IsModulo};
+ghost use Rattle.op_group.specs.Composition.{IsComposed, IsInverseModulo};
 
 use crate::operation::Op;
 use crystal_spec::Sign;
-use exact_num::{Int, Residue};
-use matrix3::{Mat3, Vec3};
-
-/// An entry of a matrix modulo n.
-fn entry(n: u32, value: Int) -> Residue
-    requires at_least { 1 ≤ n }
-    requires at_most { n ≤ 10 ^ 6 }
-    ensures value { residue_of result ≡ residue n value }
-    ensures modulus { modulus_of result ≡ n }
-{
-    Residue::new(value.get(), n)
-}
-
-/// A coordinate of a translation part modulo n.
-fn coordinate(n: u32, value: u32) -> Residue
-    requires at_least { 1 ≤ n }
-    requires at_most { n ≤ 10 ^ 6 }
-    ensures value { residue_of result ≡ residue n (pos value) }
-    ensures modulus { modulus_of result ≡ n }
-{
-    Residue::new(value as i128, n)
-}
-
-/// A translation part modulo n.
-fn column(n: u32, shift: [u32; 3]) -> Vec3<Residue>
-    requires at_least { 1 ≤ n }
-    requires at_most { n ≤ 10 ^ 6 }
-    ensures value { vector_map residue_of result ≡ vector_map (residue n) (translation_of shift) }
-    ensures modulus { VectorOfModulus modulus_of n result }
-{
-    Vec3 {
-        x: coordinate(n, shift[0]),
-        y: coordinate(n, shift[1]),
-        z: coordinate(n, shift[2]),
-    }
-}
-
-/// A matrix modulo n.
-fn matrix(n: u32, w: &Mat3<Int>) -> Mat3<Residue>
-    requires at_least { 1 ≤ n }
-    requires at_most { n ≤ 10 ^ 6 }
-    ensures value { matrix_map residue_of result ≡ matrix_map (residue n) w.now }
-    ensures modulus { MatrixOfModulus modulus_of n result }
-{
-    let w = *w;
-    Mat3 {
-        a11: entry(n, w.a11),
-        a12: entry(n, w.a12),
-        a13: entry(n, w.a13),
-        a21: entry(n, w.a21),
-        a22: entry(n, w.a22),
-        a23: entry(n, w.a23),
-        a31: entry(n, w.a31),
-        a32: entry(n, w.a32),
-        a33: entry(n, w.a33),
-    }
-}
-
-/// The matrix applied to a translation part, modulo n.
-fn turned(n: u32, w: &Mat3<Int>, shift: [u32; 3]) -> Vec3<Residue>
-    requires at_least { 1 ≤ n }
-    requires at_most { n ≤ 10 ^ 6 }
-    ensures value { vector_map residue_of result ≡ vector_map (residue n) (image w.now (translation_of shift)) }
-    ensures modulus { VectorOfModulus modulus_of n result }
-{
-    matrix(n, w).apply(&column(n, shift))
-}
-
-/// Where the map of this matrix and translation part takes a translation part, modulo n.
-fn carried(n: u32, w: &Mat3<Int>, shift: [u32; 3], from: [u32; 3]) -> [u32; 3]
-    requires at_least { 1 ≤ n }
-    requires at_most { n ≤ 10 ^ 6 }
-    ensures { ReducesTo n (position_after w.now (translation_of shift) (translation_of from)) (translation_of result) }
-{
-    let image = turned(n, w, from);
-    [
-        (image.x + coordinate(n, shift[0])).get(),
-        (image.y + coordinate(n, shift[1])).get(),
-        (image.z + coordinate(n, shift[2])).get(),
-    ]
-}
-
-/// The opposite of the matrix applied to a translation part, modulo n.
-fn turned_back(n: u32, w: &Mat3<Int>, shift: [u32; 3]) -> [u32; 3]
-    requires at_least { 1 ≤ n }
-    requires at_most { n ≤ 10 ^ 6 }
-    ensures { ReducesTo n (multiple (negsuc 0) (image w.now (translation_of shift))) (translation_of result) }
-{
-    let image = turned(n, w, shift);
-    [(-image.x).get(), (-image.y).get(), (-image.z).get()]
-}
+use positions::MatrixModulo;
 
 /// The time sign of two operations one after the other: their product.
 fn sign_of_both(first: Sign, next: Sign) -> Sign
@@ -132,7 +43,7 @@ pub fn compose(n: u32, first: &Op, next: &Op) -> Op
 {
     Op {
         w: next.w.times(&first.w),
-        shift: carried(n, &next.w, next.shift, first.shift),
+        shift: MatrixModulo::new(&next.w, n).carried(next.shift, first.shift),
         sign: sign_of_both(first.sign, next.sign),
     }
 }
@@ -153,7 +64,7 @@ pub fn inverse(n: u32, op: &Op) -> Op
     let w = op.w.inverse_unit();
     Op {
         w,
-        shift: turned_back(n, &w, op.shift),
+        shift: MatrixModulo::new(&w, n).translation_onto(op.shift, [0, 0, 0]),
         sign: op.sign,
     }
 }

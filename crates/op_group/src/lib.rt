@@ -17,6 +17,3 @@ pub use composition::{compose, inverse};
 pub use list::OpList;
 pub use operation::{Op, compare};
 pub use steps::{Steps3, step_basis};
-
-#[cfg(test)]
-mod tests;

@@ -1,8 +1,9 @@
 ghost use Rattle.std.specs.Prelude.{◌≡◌, ◌↔◌, ◌<◌, ◌≤◌, [], length, map, slice_get, Some, IsTrue, IsOk, IfOk, IfErr, OnOk, OnErr};
 ghost use Rattle.std.specs.List.{insert};
-ghost use Rattle.crystal_spec.specs.Increasing.{IsIncreasing, IsMember, inserted};
+ghost use Rattle.lists.specs.Increasing.{IsIncreasing, IsMember, inserted};
 ghost use Rattle.crystal_spec.specs.Operations.{Operation, compare_of, IsWithinCell};
-ghost use Rattle.op_group.specs.Views.{operation_of, translation_of};
+ghost use Rattle.op_group.specs.Views.{operation_of};
+ghost use Rattle.positions.specs.Positions.{triple_of};
 ghost use Rattle.op_group.specs.Lists.{AllWithinCell};
 
 use crate::operation::{Op, compare};
@@ -106,7 +107,7 @@ impl OpList {
     ///
     /// Its translation part is below n. Where it was there, nothing changes; after want of memory too.
     pub fn insert(&mut self, op: Op) -> Result<bool, AllocError>
-        requires below_n { IsWithinCell self.old.n (translation_of op.shift) }
+        requires below_n { IsWithinCell self.old.n (triple_of op.shift) }
         ensures value { OnOk result (self.new.operations ≡ inserted compare_of (operation_of op) self.old.operations) }
         ensures exact { IfOk result (λ is_new. IsTrue is_new ↔ ¬ (IsMember (operation_of op) self.old.operations)) }
         ensures succeeds { IsMember (operation_of op) self.old.operations → IsOk result }

@@ -9,7 +9,8 @@ ghost use Rattle.crystal_spec.specs.Matrices.{determinant, identity as identity_
 ghost use Rattle.basis_spec.specs.Metrics.{matrix_multiple};
 ghost use Rattle.basis_spec.specs.Translations.{pure_translation};
 ghost use Rattle.basis_spec.specs.StepBases.{InLattice, IsClosed, IsStepBasis, IsSteps};
-ghost use Rattle.op_group.specs.Views.{operation_of, translation_of};
+ghost use Rattle.op_group.specs.Views.{operation_of};
+ghost use Rattle.positions.specs.Positions.{triple_of};
 ghost use Rattle.op_group.specs.Lists.{HasOnlyPureTranslations};
 ghost use Rattle.op_group.specs.Steps.{IsAlong, along, whole_cell, IsStep, IsLeastStep, upper_triangular, HasInverse};
 
@@ -38,49 +39,35 @@ enum Axis {
     Z,
 }
 
-/// A number as an `Int`.
-fn whole(value: u32) -> Int
-    ensures { result ≡ pos value }
-{
-    Int::new(value as i128).unwrap()
-}
-
 /// The matrix with these columns, which end on the diagonal.
 fn upper(s1: u32, x2: u32, s2: u32, x3: u32, y3: u32, s3: u32) -> Mat3<Int>
     ensures { result ≡ upper_triangular s1 x2 s2 x3 y3 s3 }
 {
-    let zero = whole(0);
+    let zero = Int::from(0u32);
     Mat3 {
-        a11: whole(s1),
-        a12: whole(x2),
-        a13: whole(x3),
+        a11: Int::from(s1),
+        a12: Int::from(x2),
+        a13: Int::from(x3),
         a21: zero,
-        a22: whole(s2),
-        a23: whole(y3),
+        a22: Int::from(s2),
+        a23: Int::from(y3),
         a31: zero,
         a32: zero,
-        a33: whole(s3),
+        a33: Int::from(s3),
     }
-}
-
-/// The identity matrix.
-pub(crate) fn identity() -> Mat3<Int>
-    ensures { result ≡ identity_matrix }
-{
-    upper(1, 0, 1, 0, 0, 1)
 }
 
 /// Whether the operation is (I, t, +1).
 pub(crate) fn is_pure_translation(op: &Op) -> bool
-    ensures { IsTrue result ↔ (operation_of op.now ≡ pure_translation (translation_of op.now.shift)) }
+    ensures { IsTrue result ↔ (operation_of op.now ≡ pure_translation (triple_of op.now.shift)) }
 {
     let op = *op;
-    op.w == identity() && op.sign == Sign::Same
+    op.w == Mat3::identity() && op.sign == Sign::Same
 }
 
 /// Whether the coordinates past the axis are 0.
 fn is_along(axis: Axis, shift: [u32; 3]) -> bool
-    ensures { IsTrue result ↔ IsAlong axis (translation_of shift) }
+    ensures { IsTrue result ↔ IsAlong axis (triple_of shift) }
 {
     match axis {
         Axis::X => shift[1] == 0 && shift[2] == 0,
@@ -91,7 +78,7 @@ fn is_along(axis: Axis, shift: [u32; 3]) -> bool
 
 /// The coordinate along the axis.
 fn along(axis: Axis, shift: [u32; 3]) -> u32
-    ensures { pos result ≡ along axis (translation_of shift) }
+    ensures { pos result ≡ along axis (triple_of shift) }
 {
     match axis {
         Axis::X => shift[0],
@@ -102,7 +89,7 @@ fn along(axis: Axis, shift: [u32; 3]) -> u32
 
 /// One whole cell along the axis.
 fn whole_cell(axis: Axis, n: u32) -> [u32; 3]
-    ensures { translation_of result ≡ whole_cell axis n }
+    ensures { triple_of result ≡ whole_cell axis n }
 {
     match axis {
         Axis::X => [n, 0, 0],
@@ -122,7 +109,7 @@ fn is_step(axis: Axis, op: &Op) -> bool
 /// The least step along the axis: of the list, or one whole cell where the list has none.
 fn least_step(list: &OpList, axis: Axis) -> [u32; 3]
     requires closed { IsClosed list.now.n list.now.operations }
-    ensures { IsLeastStep list.now.n list.now.operations axis (translation_of result) }
+    ensures { IsLeastStep list.now.n list.now.operations axis (triple_of result) }
 {
     let mut least = whole_cell(axis, list.n());
     for i in 0..list.count() {
@@ -171,8 +158,8 @@ fn inverse_times(n: u32, basis: &Mat3<Int>) -> Mat3<Int>
     ensures { product basis.now result ≡ matrix_multiple (pos n) identity_matrix }
 {
     let b = *basis;
-    let n = whole(n);
-    let zero = whole(0);
+    let n = Int::from(n);
+    let zero = Int::from(0u32);
     let a11 = quotient(n, b.a11);
     let a22 = quotient(n, b.a22);
     let a33 = quotient(n, b.a33);

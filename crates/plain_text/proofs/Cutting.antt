@@ -5,24 +5,26 @@ use Rattle.std.proofs.lemmas.Bool.{eq-eqb, ne_eqb}
 use Rattle.std.proofs.Common.{add-one}
 use Rattle.std.proofs.lemmas.List.{take_rest}
 use Rattle.std.proofs.Math.Seq.{drop-length, take-length}
-use Rattle.plain_text.specs.Text.{pieces, byte_then, lines, words_between, without_return, begins_word}
+use Rattle.plain_text.specs.Text.{pieces, byte_then, lines, words_between, without_return, without_last, begins_word}
 
--- ---- CR
+-- ---- the last byte
 
-pub without_return-kept : (p : List ℕ) → ((n : ℕ) → length p ≡ suc n → get_or p n 0 ≡ 13 → ⊥) → without_return p ≡ p
-without_return-kept [] h = refl
-without_return-kept (b ∷ []) h = rw (ne_eqb b 13 (h 0 refl)) refl
-without_return-kept (b ∷ c ∷ p) h =
-    let deeper = without_return-kept (c ∷ p) (λ n len. h (suc n) (ap suc len)) in
+-- a text without this byte at its end is kept
+pub without_last-kept : (last : ℕ) (p : List ℕ) → ((n : ℕ) → length p ≡ suc n → get_or p n 0 ≡ last → ⊥) → without_last last p ≡ p
+without_last-kept last [] h = refl
+without_last-kept last (b ∷ []) h = rw (ne_eqb b last (h 0 refl)) refl
+without_last-kept last (b ∷ c ∷ p) h =
+    let deeper = without_last-kept last (c ∷ p) (λ n len. h (suc n) (ap suc len)) in
     ap (λ (q : List ℕ). b ∷ q) deeper
 
-pub without_return-dropped : (p : List ℕ) (n : ℕ) → length p ≡ suc n → get_or p n 0 ≡ 13 → without_return p ≡ take n p
-without_return-dropped [] n len e = absurd (omega arith)
-without_return-dropped (b ∷ []) zero len e = rw (eq-eqb b 13 e) refl
-without_return-dropped (b ∷ []) (suc n) len e = absurd (omega arith)
-without_return-dropped (b ∷ c ∷ p) zero len e = absurd (omega arith)
-without_return-dropped (b ∷ c ∷ p) (suc n) len e =
-    let deeper = without_return-dropped (c ∷ p) n (omega arith) e in
+-- and from one with it the byte is dropped
+pub without_last-dropped : (last : ℕ) (p : List ℕ) (n : ℕ) → length p ≡ suc n → get_or p n 0 ≡ last → without_last last p ≡ take n p
+without_last-dropped last [] n len e = absurd (omega arith)
+without_last-dropped last (b ∷ []) zero len e = rw (eq-eqb b last e) refl
+without_last-dropped last (b ∷ []) (suc n) len e = absurd (omega arith)
+without_last-dropped last (b ∷ c ∷ p) zero len e = absurd (omega arith)
+without_last-dropped last (b ∷ c ∷ p) (suc n) len e =
+    let deeper = without_last-dropped last (c ∷ p) n (omega arith) e in
     ap (λ (q : List ℕ). b ∷ q) deeper
 
 -- ---- lines

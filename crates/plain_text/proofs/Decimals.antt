@@ -3,13 +3,12 @@
 --   digits_fit, unit_fits   with 18 digits together they are below 10^18, and so is the denominator
 --   no_decimal        a fraction has no point
 --   number_positive   the denominator of a number is positive
-use Rattle.std.proofs.Common.{◌≡◌, ℕ, zero, suc, ◌+◌, ◌-◌, ◌*◌, ◌^◌, ◌<◌, ◌≤◌, Bool, true, false, Option, None, List, [], ◌∷◌, ◌++◌, length, refl, ap, ◌∙◌, arith, length-append}
+use Rattle.std.proofs.Common.{◌≡◌, ℕ, zero, suc, ◌+◌, ◌-◌, ◌*◌, ◌^◌, ◌<◌, ◌≤◌, Bool, true, false, None, List, [], ◌∷◌, ◌++◌, length, refl, ap, ◌∙◌, arith, length-append}
 use Rattle.std.specs.Prelude.{not, ◌==◌, ◌&&◌, if◌then◌else◌}
 use Rattle.std.specs.List.{fold, list_all}
 use Rattle.std.proofs.lemmas.Bool.{ne_eqb, eqb-true, and_parts, and_from}
 use Rattle.std.proofs.lemmas.List.Folds.{list_all-append}
 use Rattle.std.proofs.Math.Nat.{pow-suc, pow-le-pow_right}
-use Rattle.plain_text.specs.declared.fault.NumberFault.{NumberFault}
 use Rattle.plain_text.specs.declared.fault.NumberFault.TheVariants.{BadNumber, NumberRange, ZeroDenominator}
 use Rattle.plain_text.specs.declared.number_form.NumberForm.{NumberForm}
 use Rattle.plain_text.specs.Digits.{is_digit, is_digits, value_of_digits}

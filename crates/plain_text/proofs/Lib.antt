@@ -1,5 +1,5 @@
 mod KnownValues
-mod Cutting
+pub mod Cutting
 pub mod DigitLemmas
 pub mod Signs
 pub mod Multiples

@@ -25,11 +25,15 @@ abbrev pub pieces : List ℕ → List (List ℕ)
 pieces [] = []
 pieces (b ∷ text) = byte_then b (pieces text)
 
+-- One such byte at the end is dropped.
+abbrev pub without_last : ℕ → List ℕ → List ℕ
+without_last last [] = []
+without_last last (b ∷ []) = if b == last then [] else b ∷ []
+without_last last (b ∷ c ∷ piece) = b ∷ without_last last (c ∷ piece)
+
 -- One CR at the end is dropped.
 abbrev pub without_return : List ℕ → List ℕ
-without_return [] = []
-without_return (b ∷ []) = if b == 13 then [] else b ∷ []
-without_return (b ∷ c ∷ piece) = b ∷ without_return (c ∷ piece)
+without_return piece = without_last 13 piece
 
 abbrev pub lines : List ℕ → List (List ℕ)
 lines text = map without_return (pieces text)

@@ -26,6 +26,3 @@ pub use number::{grown, is_same_modulo_1, read_number, times, zero};
 pub use number_form::NumberForm;
 pub use number_word::NumberWord;
 pub use print::{push_decimal, push_number, push_numbers};
-
-#[cfg(test)]
-mod tests;

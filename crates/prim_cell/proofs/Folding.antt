@@ -1,9 +1,9 @@
 -- Atoms put in one after another, each unless one is at its position, are those that are left where each position is kept
 -- once.
 use Rattle.std.proofs.Common.{◌≡◌, Bool, true, false, List, [], ◌∷◌, ◌++◌, refl, sym, ap, ◌∙◌, ◌⊎◌, inl, inr}
+use Rattle.lists.specs.Increasing.{IsMember}
 use Rattle.crystal_spec.specs.Matrices.{Triple}
 use Rattle.crystal_spec.specs.Crystals.{Site}
-use Rattle.crystal_spec.specs.Increasing.{IsMember}
 use Rattle.crystal.specs.Occupants.{NoneAt}
 use Rattle.crystal.proofs.CellLemmas.{none_member}
 use Rattle.basis_spec.specs.Bases.{is_same_position, without_position, first_at_each_position}

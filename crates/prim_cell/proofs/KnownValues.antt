@@ -4,7 +4,7 @@ use Rattle.std.proofs.Common.{ℤ, pos, negsuc, refl, arith, lit≤, ◌^◌}
 use Rattle.std.proofs.lemmas.Int.{ints}
 use Rattle.ring.specs.Size.{AtMost}
 use Rattle.crystal_spec.specs.Matrices.{Matrix, identity}
-use Rattle.basis_spec.specs.Positions.{residue, triple}
+use Rattle.positions.specs.Positions.{modulo, triple}
 use Rattle.prim_cell.specs.Primitives.{IsImageModulo, ComesFromMetric}
 
 abbrev rows : ℤ → ℤ → ℤ → ℤ → ℤ → ℤ → ℤ → ℤ → ℤ → Matrix
@@ -15,7 +15,7 @@ back = rows (pos 1) (pos 0) (negsuc 0) (pos 0) (pos 1) (negsuc 0) (pos 0) (pos 0
 
 -- the atom in the middle comes to whole cells, and so to the origin
 middle : IsImageModulo 2 back (triple (pos 0) (pos 0) (pos 0))
-unfolding residue
+unfolding modulo
 middle = record { old_position = triple (pos 1) (pos 1) (pos 1); position_is = refl }
 
 -- the metric tensor there, in units of 1/4, comes from the identity

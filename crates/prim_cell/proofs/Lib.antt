@@ -1,9 +1,9 @@
 pub mod Moving
-pub mod Found
-pub mod Folding
-pub mod Making
-pub mod Ranges
-pub mod FewTranslations
+mod Found
+mod Folding
+mod Making
+mod Ranges
+mod FewTranslations
 pub mod ReducedBases
-pub mod Numbering
+mod Numbering
 mod KnownValues

@@ -1,30 +1,16 @@
 -- Where a translation takes the atoms of a cell.
-use Rattle.std.proofs.Common.{◌≡◌, ℕ, zero, suc, ◌<◌, ◌≤◌, List, [], ◌∷◌, length, refl, ap, arith}
-use Rattle.std.specs.Int.{int_rem_euclid}
-use Rattle.numbers.specs.Residue.{residue as int_residue}
-use Rattle.std.specs.Prelude.{ℤ, pos, ◌<ℤ◌, slice_get, slice_index, Some}
+use Rattle.std.proofs.Common.{◌≡◌, ℕ, List, ap, arith}
+use Rattle.std.specs.Prelude.{pos, ◌<ℤ◌, slice_index}
 use Rattle.std.proofs.lemmas.Int.{ints}
 use Rattle.crystal_spec.specs.Matrices.{Triple}
 use Rattle.crystal_spec.specs.Crystals.{Structure}
-use Rattle.crystal.specs.Views.{triple_of}
+use Rattle.positions.specs.Positions.{triple_of}
 use Rattle.crystal_spec.proofs.Entrywise.{triple_same}
 use Rattle.crystal.specs.Cells.{IsCellWithinLimits}
-
--- a number that is one of a list's is below its length
-pub below_length : {X : Type 0} (xs : List X) (i : ℕ) (x : X) → slice_get xs i ≡ Some x → i < length xs
-below_length [] i x e = absurd (cc e)
-below_length (y ∷ ys) zero x e = omega arith
-below_length (y ∷ ys) (suc i) x e = let h = below_length ys i x e in omega (arith, h)
 
 -- n is positive in a cell
 pub some_cells : (c : Structure) → IsCellWithinLimits c → pos 0 <ℤ pos c.n
 some_cells c cell = let h = cell.n_at_least in omega (arith, ints, h)
-
--- the residue of an integer is the rest of its division
-pub residue-euclid : (n : ℕ) (z : ℤ) → 1 ≤ n → int_residue n z ≡ int_rem_euclid z (pos n)
-unfolding int_residue
-residue-euclid zero z h = absurd (omega arith)
-residue-euclid (suc n) z h = refl
 
 -- two positions are one where their coordinates are
 pub place_same : (p q : List ℕ) → slice_index p 0 ≡ slice_index q 0 → slice_index p 1 ≡ slice_index q 1 → slice_index p 2 ≡ slice_index q 2 → triple_of p ≡ triple_of q

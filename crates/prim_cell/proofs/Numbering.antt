@@ -3,19 +3,20 @@
 -- Of atoms at one position in it the first is kept. They are images of atoms of one species, so an atom that is left out
 -- comes behind one of its species, and no species is left out.
 use Rattle.std.proofs.Common.{◌≡◌, ℕ, suc, ◌<◌, ◌≤◌, Bool, true, false, pos, ◌<ℤ◌, List, [], ◌∷◌, length, map, inl, inr, refl, sym, ap, subst, ◌∙◌, arith}
+use Rattle.lists.specs.Increasing.{IsMember}
+use Rattle.lists.proofs.Members.{mapped_from}
 use Rattle.crystal_spec.specs.Matrices.{Triple, Matrix, image}
 use Rattle.crystal_spec.specs.Crystals.{Site, Structure}
-use Rattle.crystal_spec.specs.Increasing.{IsMember}
 use Rattle.crystal_spec.specs.Cells.{DiffersByCells}
 use Rattle.crystal_spec.proofs.Images.{occupied_itself}
 use Rattle.crystal.specs.Numbering.{AreByFirstUse}
-use Rattle.basis_spec.specs.Positions.{residue}
+use Rattle.positions.specs.Positions.{modulo}
 use Rattle.basis_spec.specs.Bases.{SameCrystal, is_same_position, without_position, first_at_each_position, site_in_basis, cell_in_basis}
-use Rattle.basis_spec.proofs.Residues.{residue_away}
+use Rattle.positions.proofs.Residues.{modulo_away}
 use Rattle.basis_spec.proofs.Translations.{site_away}
 use Rattle.basis_spec.proofs.PrimitiveCell.{differs_sym, differs_trans, differs_at}
 use Rattle.basis_spec.proofs.PrimitiveAtoms.{cell_in_basis_one_atom_each}
-use Rattle.basis_spec.proofs.FirstAtoms.{same_position_decides, member_of_firsts, mapped_from}
+use Rattle.basis_spec.proofs.FirstAtoms.{same_position_decides, member_of_firsts}
 
 -- no atom that is left out is the first of its species
 without_numbered : (p : Triple) (m used total : ℕ) (sites : List Site) → m ≤ used → ((b : Site) → IsMember b sites → p ≡ b.position → b.species < m) → AreByFirstUse used total sites → AreByFirstUse used total (without_position p sites)
@@ -56,12 +57,12 @@ mapped_numbered f same used total (a ∷ sites) (inr k) = inr (same a ∙ k.0, m
 
 module _ (c : Structure) (r : Matrix) (some : pos 0 <ℤ pos c.n) (crystal : SameCrystal c (cell_in_basis c r) r) where
   -- atoms that are brought to one position have one species
-  alike : (a b : Site) → IsMember a c.sites → IsMember b c.sites → residue c.n (image r a.position) ≡ residue c.n (image r b.position) → a.species ≡ b.species
+  alike : (a b : Site) → IsMember a c.sites → IsMember b c.sites → modulo c.n (image r a.position) ≡ modulo c.n (image r b.position) → a.species ≡ b.species
   unfolding cell_in_basis
   alike a b i j e =
       let x = (crystal.crystal a.species a.position a.moment).0 (occupied_itself c a i) in
       let y = (crystal.crystal b.species b.position b.moment).0 (occupied_itself c b j) in
-      let near = differs_trans (residue_away c.n (image r a.position) some) (differs_at (sym e) refl (differs_sym (residue_away c.n (image r b.position) some))) in
+      let near = differs_trans (modulo_away c.n (image r a.position) some) (differs_at (sym e) refl (differs_sym (modulo_away c.n (image r b.position) some))) in
       let away : DiffersByCells c.n x.site.position y.site.position = differs_trans (differs_sym (site_away x)) (differs_trans near (site_away y)) in
       let same = cell_in_basis_one_atom_each c r some x.site y.site x.of_cell y.of_cell away in
       sym x.same_species ∙ ap (λ (s : Site). s.species) same ∙ y.same_species

@@ -6,7 +6,7 @@
 -- has a squared length q of at most d² · 10^9 in G'. The metric tensor is reduced, so its diagonal entry a, a positive integer,
 -- has a x² ≤ 2 q for a coordinate x of the column: x is at most 4.6 · 10^7. The adjugate of R has entries up to twice the
 -- square.
-use Rattle.std.proofs.Common.{◌≡◌, ℕ, suc, ◌+◌, ◌*◌, ◌^◌, ◌≤◌, ◌<◌, [], ◌∷◌, ℤ, pos, ◌+ℤ◌, ◌*ℤ◌, neg_ℤ, unsigned_abs, ◌≤ℤ◌, ◌<ℤ◌, refl, ap, subst, ◌∙◌, lit≤, mul-le-mul, arith}
+use Rattle.std.proofs.Common.{◌≡◌, ℕ, suc, ◌+◌, ◌*◌, ◌^◌, ◌≤◌, ◌<◌, [], ◌∷◌, ℤ, pos, negsuc, ◌+ℤ◌, ◌*ℤ◌, neg_ℤ, unsigned_abs, ◌≤ℤ◌, ◌<ℤ◌, refl, ap, subst, ◌∙◌, lit≤, mul-le-mul, arith}
 use Rattle.std.proofs.lemmas.Int.{ints, unsigned_abs-mul}
 use Rattle.ring.specs.Ring.{int_ops, quoted, var, con, ◌:+◌, ◌:*◌, ◌:-◌}
 use Rattle.ring.specs.Size.{AtMost}
@@ -23,8 +23,8 @@ use Rattle.lattice_spec.proofs.Isometry.{carried, both, matrix, tensor_after}
 use Rattle.lattice_spec.proofs.Cauchy.{reduced_positive, bb_positive}
 use Rattle.lattice_spec.proofs.Bounds.{IsInBox, box_of_column}
 use Rattle.crystal.specs.declared.limits.TheConstants.{MOST_ATOMS}
-use Rattle.crystal.specs.Bounds.{EntriesAtMost}
-use Rattle.crystal.proofs.Ranges.{grown, entries_grown, at_most_product, at_most_transposed}
+use Rattle.matrix3.specs.Bounds.{EntriesAtMost}
+use Rattle.matrix3.proofs.FitsBySize.{grown, entries_grown, product_size, transposed_size}
 use Rattle.basis_spec.specs.Metrics.{matrix_multiple, metric_in}
 
 -- the two ways to say it
@@ -45,7 +45,7 @@ entries_of_each n m a le h = record {
 pub step_metric_small : (p g : Matrix) → EntriesAtMost MOST_ATOMS p → EntriesAtMost (10 ^ 9) g → EntriesAtMost (10 ^ 16) (metric_in p g)
 step_metric_small p g h k =
     let m = 10 ^ 9 * MOST_ATOMS + 10 ^ 9 * MOST_ATOMS + 10 ^ 9 * MOST_ATOMS in
-    entries_grown {a = metric_in p g} (lit≤ tt) (at_most_product MOST_ATOMS m _ _ (at_most_transposed MOST_ATOMS p h) (at_most_product (10 ^ 9) MOST_ATOMS g p k h))
+    entries_grown {a = metric_in p g} (lit≤ tt) (product_size _ _ (transposed_size p h) (product_size g p k h))
 
 -- ---- the entries of R
 root : (k r : ℕ) → k * k < suc r * suc r → k ≤ r
@@ -119,3 +119,13 @@ fore_small r h = record {
   a32 = minor_small _ _ _ _ h.a12 h.a11 h.a32 h.a31;
   a33 = minor_small _ _ _ _ h.a11 h.a12 h.a21 h.a22;
 }
+
+-- the scale of the primitive cell, the square of the index times that of the cell, is from 1 to 10^16
+pub scale_within : (i : ℕ) (s : ℤ) → 1 ≤ i → i ≤ MOST_ATOMS → pos 1 ≤ℤ s → s ≤ℤ pos (10 ^ 9) → (pos 1 ≤ℤ ((pos i *ℤ pos i) *ℤ s)) × (((pos i *ℤ pos i) *ℤ s) ≤ℤ pos (10 ^ 16))
+scale_within i (pos s) some few low high =
+    let one : 1 ≤ s = omega (arith, ints, low) in
+    let many : s ≤ 10 ^ 9 = omega (arith, ints, high) in
+    let least : 1 * 1 * 1 ≤ i * i * s = mul-le-mul (mul-le-mul some some) one in
+    let most : i * i * s ≤ MOST_ATOMS * MOST_ATOMS * 10 ^ 9 = mul-le-mul (mul-le-mul few few) many in
+    (omega (arith, ints, least), omega (arith, ints, most))
+scale_within i (negsuc s) some few low high = absurd (omega (arith, ints, low))

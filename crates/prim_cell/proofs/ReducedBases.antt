@@ -5,9 +5,10 @@
 use Rattle.std.proofs.Common.{◌≡◌, ℕ, ◌*◌, ◌≤◌, ◌^◌, ℤ, pos, ◌*ℤ◌, ◌≤ℤ◌, ◌<ℤ◌, List, [], ◌∷◌, length, map, refl, sym, ap, subst, ◌∙◌, arith}
 use Rattle.std.proofs.lemmas.Int.{ints}
 use Rattle.ring.specs.Ring.{var, con, ◌:*◌}
+use Rattle.lists.specs.Increasing.{IsMember}
+use Rattle.lists.proofs.Members.{mapped_from}
 use Rattle.crystal_spec.specs.Matrices.{Matrix, product, transposed, determinant, adjugate, identity}
 use Rattle.crystal_spec.specs.Crystals.{Site, Structure, IsPositive}
-use Rattle.crystal_spec.specs.Increasing.{IsMember}
 use Rattle.crystal_spec.specs.Operations.{Operation}
 use Rattle.crystal_spec.specs.Cells.{IsCell}
 use Rattle.crystal_spec.proofs.Entrywise.{matrix_same}
@@ -16,7 +17,7 @@ use Rattle.crystal_spec.proofs.Isometries.{determinant-product}
 use Rattle.lattice_spec.specs.Tensor.{Tensor, tensor_matrix}
 use Rattle.lattice_spec.specs.Niggli.{IsNiggli}
 use Rattle.crystal.specs.declared.limits.TheConstants.{MOST_ATOMS}
-use Rattle.crystal.specs.Bounds.{EntriesAtMost}
+use Rattle.matrix3.specs.Bounds.{EntriesAtMost}
 use Rattle.op_group.specs.Lists.{OperationList}
 use Rattle.basis_spec.specs.Metrics.{matrix_multiple, metric_in}
 use Rattle.basis_spec.specs.Translations.{IsPrimitive, ListsPureTranslations}
@@ -25,7 +26,7 @@ use Rattle.basis_spec.specs.StepBases.{IsSteps, InLattice}
 use Rattle.basis_spec.proofs.MatrixLaws.{metric_in-product, metric_in-metric_in_adjugate, image-product, image-identity, same_images}
 use Rattle.basis_spec.proofs.OperationBases.{at_least_one}
 use Rattle.basis_spec.proofs.Positive.{positive_adjugate}
-use Rattle.basis_spec.proofs.FirstAtoms.{member_of_firsts, mapped_from}
+use Rattle.basis_spec.proofs.FirstAtoms.{member_of_firsts}
 use Rattle.basis_spec.proofs.StepLists.{list_lattice}
 use Rattle.basis_spec.proofs.StepEntries.{fore_is_adjugate}
 use Rattle.basis_spec.proofs.Candidates.{steps_once}

@@ -2,11 +2,12 @@
 --   IsOnto c a b o       o is the pure translation that carries atom number a onto atom number b, of its species, and it
 --                        keeps the crystal
 --   IsFromAtoms c a k o  it carries atom number a onto one of the first k atoms so
-use Rattle.std.specs.Prelude.{◌≡◌, ℕ, ◌<◌, slice_get, Some}
+use Rattle.std.specs.Prelude.{◌≡◌, ℕ, slice_get, Some}
+use Rattle.lists.specs.Any.{AnyBelow}
 use Rattle.crystal_spec.specs.Matrices.{difference}
 use Rattle.crystal_spec.specs.Crystals.{Site, Structure}
 use Rattle.crystal_spec.specs.Operations.{Operation}
-use Rattle.basis_spec.specs.Positions.{residue}
+use Rattle.positions.specs.Positions.{modulo}
 use Rattle.basis_spec.specs.Translations.{IsTranslation, pure_translation}
 
 -- the translation by the difference of the two positions, modulo n
@@ -16,11 +17,9 @@ pub record IsOnto (c : Structure) (a b : ℕ) (o : Operation) : Type 0 where
   pub onto : Site
   pub is_onto : slice_get c.sites b ≡ Some onto
   pub same_species : onto.species ≡ from.species
-  pub is : o ≡ pure_translation (residue c.n (difference onto.position from.position))
+  pub is : o ≡ pure_translation (modulo c.n (difference onto.position from.position))
   pub keeps : IsTranslation c o.translation
 
 -- onto one of the first k atoms
-pub record IsFromAtoms (c : Structure) (a k : ℕ) (o : Operation) : Type 0 where
-  pub number : ℕ
-  pub below : number < k
-  pub onto : IsOnto c a number o
+abbrev pub IsFromAtoms : Structure → ℕ → ℕ → Operation → Type 0
+IsFromAtoms c a k o = AnyBelow k (λ b. IsOnto c a b o)

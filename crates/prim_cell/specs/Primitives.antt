@@ -7,15 +7,15 @@
 --   IsPrimitiveCell p               the cell of p is primitive and reduced, and the rest of p leads to it
 --   IsReducedBasis c os i r p g     r takes coordinates of c to a reduced basis of the pure translations os
 use Rattle.std.specs.Prelude.{◌≡◌, ℕ, pos, ◌*◌, ◌*ℤ◌, ◌^◌, ◌≤◌, List, length}
+use Rattle.lists.specs.Increasing.{IsMember}
 use Rattle.crystal_spec.specs.Matrices.{Triple, Matrix, product, image, transposed, determinant, adjugate, identity}
 use Rattle.crystal_spec.specs.Crystals.{Site, Structure, IsPositive}
-use Rattle.crystal_spec.specs.Increasing.{IsMember}
 use Rattle.crystal_spec.specs.Operations.{Operation}
 use Rattle.lattice_spec.specs.Niggli.{IsNiggli}
 use Rattle.crystal.specs.declared.limits.TheConstants.{MOST_ATOMS}
-use Rattle.crystal.specs.Bounds.{EntriesAtMost}
+use Rattle.matrix3.specs.Bounds.{EntriesAtMost}
 use Rattle.op_group.specs.Lists.{OperationList}
-use Rattle.basis_spec.specs.Positions.{residue}
+use Rattle.positions.specs.Positions.{modulo}
 use Rattle.basis_spec.specs.Metrics.{matrix_multiple, metric_in}
 use Rattle.basis_spec.specs.Translations.{IsPrimitive, pure_translation}
 use Rattle.basis_spec.specs.Bases.{IsBack, IsPrimitiveIn}
@@ -37,7 +37,7 @@ pub record PrimitiveCell : Type 0 where
 -- q is R p modulo n
 pub record IsImageModulo (n : ℕ) (r : Matrix) (q : Triple) : Type 0 where
   pub old_position : Triple
-  pub position_is : q ≡ residue n (image r old_position)
+  pub position_is : q ≡ modulo n (image r old_position)
 
 -- Rᵀ g R is index² times a symmetric, positive metric tensor of integers of size at most 10^9
 pub record ComesFromMetric (index : ℕ) (r g : Matrix) : Type 0 where

@@ -2,9 +2,9 @@
 --   HasMomentsAtMost bound c   the moments of the atoms have coordinates of size at most this
 --   HasSizesOfRead c           the sizes that every cell has which was read
 use Rattle.std.specs.Prelude.{ℕ, pos, ◌^◌, ◌≤ℤ◌}
+use Rattle.lists.specs.Increasing.{IsMember}
 use Rattle.crystal_spec.specs.Crystals.{Site, Structure}
-use Rattle.crystal_spec.specs.Increasing.{IsMember}
-use Rattle.crystal.specs.Bounds.{EntriesAtMost, CoordinatesAtMost}
+use Rattle.matrix3.specs.Bounds.{EntriesAtMost, CoordinatesAtMost}
 
 -- the moments of the atoms, in units of 1/k, have coordinates of at most this size
 abbrev pub HasMomentsAtMost : ℕ → Structure → Type 0

@@ -3,7 +3,7 @@
 ghost use Rattle.std.specs.Prelude.{◌≡◌, ◌^◌};
 ghost use Rattle.crystal_spec.specs.Matrices.{transposed};
 ghost use Rattle.crystal.specs.Views.{metric_of};
-ghost use Rattle.crystal.specs.Bounds.{EntriesAtMost};
+ghost use Rattle.matrix3.specs.Bounds.{EntriesAtMost};
 ghost use Rattle.basis_spec.specs.Metrics.{metric_in};
 ghost use Rattle.basis_spec.specs.Translations.{ListsPureTranslations};
 ghost use Rattle.prim_cell.specs.Primitives.{IsReducedBasis};

@@ -5,8 +5,6 @@
 #![tactic(auto)]
 
 mod basis;
-mod modulo;
-mod names;
 mod primitive_cell;
 mod rebased;
 mod reduced;

@@ -3,7 +3,7 @@
 ghost use Rattle.std.specs.Prelude.{◌≡◌, ◌≤◌, ◌^◌, ◌≤ℤ◌, pos, length, IfOk};
 ghost use Rattle.crystal_spec.specs.Matrices.{determinant, adjugate};
 ghost use Rattle.lattice_spec.specs.Niggli.{IsNiggli};
-ghost use Rattle.crystal.specs.Bounds.{EntriesAtMost};
+ghost use Rattle.matrix3.specs.Bounds.{EntriesAtMost};
 ghost use Rattle.crystal.specs.Numbering.{AreByFirstUse};
 ghost use Rattle.basis_spec.specs.Translations.{ListsPureTranslations};
 ghost use Rattle.basis_spec.specs.Bases.{cell_in_basis, IsPrimitiveIn};

@@ -1,18 +1,17 @@
 // The pure translations.
 
 ghost use Rattle.std.specs.Prelude.{◌≡◌, ◌↔◌, ◌<◌, ◌⊎◌, length, IfOk, OnOk};
-ghost use Rattle.crystal_spec.specs.Increasing.{IsMember};
+ghost use Rattle.lists.specs.Increasing.{IsMember};
 ghost use Rattle.crystal_spec.specs.Matrices.{identity};
 ghost use Rattle.crystal_spec.specs.Operations.{Operation};
 ghost use Rattle.crystal.specs.Actions.{ActsOn};
 ghost use Rattle.basis_spec.specs.Translations.{ListsPureTranslations};
 ghost use Rattle.prim_cell.specs.Candidates.{IsOnto};
 
-use crate::modulo::between;
 use crystal::{Action, Cell, Failure, Places, Sign};
-use exact_num::Int;
 use matrix3::Mat3;
 use op_group::{Op, OpList};
+use positions::between;
 use std::alloc::{AllocError, Global};
 
 /// How many atoms of the cell are of this species.
@@ -43,25 +42,6 @@ fn rarest(cell: &Cell) -> usize
     rarest
 }
 
-/// The matrix of a translation.
-fn identity() -> Mat3<Int>
-    ensures { result ≡ identity }
-{
-    let zero = Int::new(0).unwrap();
-    let one = Int::new(1).unwrap();
-    Mat3 {
-        a11: one,
-        a12: zero,
-        a13: zero,
-        a21: zero,
-        a22: one,
-        a23: zero,
-        a31: zero,
-        a32: zero,
-        a33: one,
-    }
-}
-
 /// Puts the translation that carries one atom onto another of its species into the list, where it keeps the crystal.
 fn add_onto(
     places: &Places,
@@ -89,7 +69,7 @@ fn add_onto(
     let shift = between(first.place, atom.place, cell.n());
     let sign = Sign::Same;
     if places.are_kept_by(action, shift, sign, last) {
-        let w = action.matrix();
+        let w = *action.matrix();
         found.insert(Op { w, shift, sign })?;
     }
     Ok(())
@@ -106,7 +86,7 @@ pub fn pure_shifts(alloc: Global, places: &Places) -> Result<OpList, AllocError>
 {
     let cell = places.cell();
     let from = rarest(cell);
-    let action = places.action(&identity());
+    let action = places.action(&Mat3::identity());
     let mut found = OpList::new(alloc, cell.n());
     let mut last = Failure::none();
     for onto in 0..cell.count() {

@@ -4,6 +4,7 @@ use Rattle.std.proofs.Common.{◌≡◌, ◌∙◌, ap, sym, subst, ℕ, ◌+◌
 use Rattle.std.specs.Prelude.{pos, slice_get}
 use Rattle.std.proofs.lemmas.List.{take_all, map-append}
 use Rattle.std.proofs.lemmas.Option.{slice_get-get_or, slice_get_within}
+use Rattle.lists.proofs.Walks.{drop_at}
 use Rattle.crystal_spec.specs.Matrices.{Matrix, image}
 use Rattle.crystal_spec.specs.Crystals.{Site, Structure}
 use Rattle.crystal_spec.specs.Operations.{Operation}
@@ -14,7 +15,7 @@ use Rattle.serde_json.specs.Data.{Data}
 use Rattle.serde_json.specs.View.{view, items_of}
 use Rattle.serde_json.specs.declared.value.Value.{Value}
 use Rattle.serde_json.specs.Written.{has_float, items_have_float}
-use Rattle.report_text.proofs.OrbitLemmas.{drop_at, step}
+use Rattle.report_text.proofs.OrbitLemmas.{step}
 use Rattle.report_text.specs.DatasetText.{operation_data, orbit_data, site_data, AreFirstsBelow, dataset}
 
 length-behind_first : (bytes : List ℕ) → length (drop 1 bytes) ≤ length bytes - 1

@@ -1,5 +1,5 @@
 pub mod DatasetLemmas
 mod KnownValues
-pub mod OrbitLemmas
-pub mod PlainTexts
-pub mod PrimitiveLemmas
+mod OrbitLemmas
+mod PlainTexts
+mod PrimitiveLemmas

@@ -1,22 +1,11 @@
 -- The text of orbits, piece by piece.
-use Rattle.std.proofs.Common.{◌≡◌, ℕ, zero, suc, ◌+◌, List, [], ◌∷◌, ◌++◌, get_or, drop, Some, sym, ap, ◌∙◌, length, arith, append_assoc}
+use Rattle.std.proofs.Common.{◌≡◌, ℕ, ◌+◌, List, [], ◌∷◌, ◌++◌, get_or, drop, Some, sym, ap, ◌∙◌, length, append_assoc}
 use Rattle.std.specs.Prelude.{slice_get}
 use Rattle.std.proofs.lemmas.Option.{get_or_from_slice_get}
+use Rattle.lists.proofs.Walks.{drop_at}
 use Rattle.crystal_spec.specs.Crystals.{Site}
 use Rattle.site_orbits.specs.Entries.{AtomOrbit}
 use Rattle.report_text.specs.OrbitText.{atom_text, atom_lines, orbit_part, orbit_lines}
-
-drop_suc : {X : Type 0} (xs : List X) (i : ℕ) (x : X) → slice_get xs i ≡ Some x → drop i xs ≡ x ∷ drop (suc i) xs
-drop_suc [] i x e = absurd (cc e)
-drop_suc (y ∷ ys) zero x e = let h : Some y ≡ Some x = e in ap (λ z. z ∷ ys) (cc h)
-drop_suc (y ∷ ys) (suc i) x e = drop_suc ys i x e
-
-add-one : (i : ℕ) → i + 1 ≡ suc i
-add-one i = omega arith
-
--- the elements from number i on are that one and those behind it
-pub drop_at : {X : Type 0} (xs : List X) (i : ℕ) (x : X) → slice_get xs i ≡ Some x → drop i xs ≡ x ∷ drop (i + 1) xs
-drop_at xs i x e = drop_suc xs i x e ∙ ap (λ (k : ℕ). x ∷ drop k xs) (sym (add-one i))
 
 -- the pieces of the line of an atom
 pub atom_from_pieces : (old n1 n2 n3 n4 n5 n6 a name b d : List ℕ) →

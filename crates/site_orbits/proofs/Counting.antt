@@ -1,12 +1,13 @@
 -- The atoms at the images of a position: which they are, and how many.
 use Rattle.std.proofs.Common.{◌≡◌, refl, sym, ap, subst, ◌∙◌, ◌⊎◌, inl, inr, ℕ, zero, suc, ◌+◌, ◌<◌, ◌≤◌, pos, ◌<ℤ◌, Bool, true, false, List, [], ◌∷◌, length, map, drop, arith}
 use Rattle.std.specs.Prelude.{◌||◌, slice_get, Some}
+use Rattle.lists.specs.Increasing.{IsMember, IsDistinct}
+use Rattle.lists.proofs.Walks.{drop_at}
+use Rattle.lists.proofs.Counting.{below_or}
 use Rattle.crystal_spec.specs.Matrices.{Triple, Matrix, image}
 use Rattle.crystal_spec.specs.Crystals.{Site, Structure}
-use Rattle.crystal_spec.specs.Increasing.{IsMember, IsDistinct}
 use Rattle.crystal_spec.specs.Operations.{Operation, IsWithinCell}
-use Rattle.crystal.proofs.ImageLemmas.{drop_at}
-use Rattle.basis_spec.specs.Positions.{residue}
+use Rattle.positions.specs.Positions.{modulo}
 use Rattle.basis_spec.specs.Bases.{is_same_position}
 use Rattle.basis_spec.proofs.FirstAtoms.{same_position_decides}
 use Rattle.site_orbits.specs.Orbits.{IsAlike, CountsOrbit, IsFirstAlike}
@@ -97,7 +98,7 @@ counted_none qs sites i old new all x at other step h =
 -- ---- orbits
 -- the atoms at the images of p are its orbit
 pub counts_orbit : (c : Structure) (os : List Operation) (p : Triple) (k : ℕ) → pos 0 <ℤ pos c.n → IsDistinct c.sites → ((a : Site) → IsMember a c.sites → IsWithinCell c.n a.position) →
-    k ≡ length (atoms_at (map (image_within c.n (residue c.n p)) os) c.sites) → CountsOrbit c os p k
+    k ≡ length (atoms_at (map (image_within c.n (modulo c.n p)) os) c.sites) → CountsOrbit c os p k
 counts_orbit c os p k some once within is = record {
   atoms = atoms_at qs c.sites;
   once = at_distinct qs c.sites once;
@@ -109,9 +110,9 @@ counts_orbit c os p k some once within is = record {
 }
   where
     qs : List Triple
-    qs = map (image_within c.n (residue c.n p)) os
+    qs = map (image_within c.n (modulo c.n p)) os
 
-    itself : (a : Site) → IsMember a c.sites → residue c.n a.position ≡ a.position
+    itself : (a : Site) → IsMember a c.sites → modulo c.n a.position ≡ a.position
     itself a m = residue_itself c.n a.position some (within a m)
 
 -- ---- the first of them
@@ -132,7 +133,7 @@ not_less i j h = grind arith
 
 -- the first atom at an image of atom number i is the first that is alike
 pub first_alike : (c : Structure) (r : Matrix) (os : List Operation) (a : Site) (i first : ℕ) → pos 0 <ℤ pos c.n → i < length c.sites → slice_get c.sites i ≡ Some a → IsAlike c.n os (image r a.position) (image r a.position) →
-    IsFirstAmong c.n r (map (image_within c.n (residue c.n (image r a.position))) os) c.sites i first → IsFirstAlike c r os (image r a.position) first
+    IsFirstAmong c.n r (map (image_within c.n (modulo c.n (image r a.position))) os) c.sites i first → IsFirstAlike c r os (image r a.position) first
 first_alike c r os a i first some below at itself h =
     let x = at_number c.sites first (omega (arith, h.at_most, below)) in
     record { site = x.site; is_site = x.is; alike = by x (h.found x.site x.is); least = λ j b is alike. not_less first j (λ l. h.none_before j b l is (image_of_alike c.n some os p (image r b.position) alike)) }
@@ -140,17 +141,14 @@ first_alike c r os a i first some below at itself h =
     p : Triple
     p = image r a.position
 
-    by : (x : AtNumber c.sites first) → (first ≡ i) ⊎ IsMember (position_in c.n r x.site) (map (image_within c.n (residue c.n p)) os) → IsAlike c.n os p (image r x.site.position)
+    by : (x : AtNumber c.sites first) → (first ≡ i) ⊎ IsMember (position_in c.n r x.site) (map (image_within c.n (modulo c.n p)) os) → IsAlike c.n os p (image r x.site.position)
     by x (inl e) = subst (λ (s : Site). IsAlike c.n os p (image r s.position)) (some_same a x.site (sym at ∙ ap (slice_get c.sites) (sym e) ∙ x.is)) itself
     by x (inr m) = alike_of_image c.n some os p (image r x.site.position) m
-
-last_or_before : (k n : ℕ) → k < n + 1 → (k < n) ⊎ (k ≡ n)
-last_or_before k n h = grind arith
 
 -- where the next atom is at none of the positions either
 pub none_more : (n : ℕ) (r : Matrix) (qs : List Triple) (sites : List Site) (j : ℕ) (x : Site) → slice_get sites j ≡ Some x → (IsMember (position_in n r x) qs → ⊥) →
     ((k : ℕ) (a : Site) → k < j → slice_get sites k ≡ Some a → IsMember (position_in n r a) qs → ⊥) → (k : ℕ) (a : Site) → k < j + 1 → slice_get sites k ≡ Some a → IsMember (position_in n r a) qs → ⊥
-none_more n r qs sites j x at other before k a l is m = by (last_or_before k j l)
+none_more n r qs sites j x at other before k a l is m = by (below_or k j l)
   where
     by : (k < j) ⊎ (k ≡ j) → ⊥
     by (inl h) = before k a h is m

@@ -6,7 +6,7 @@ use Rattle.crystal_spec.specs.Crystals.{Site, Structure, position_after}
 use Rattle.crystal_spec.specs.Operations.{Operation, ListsAll}
 use Rattle.crystal_spec.specs.Cells.{DiffersByCells, HasOneAtomEach}
 use Rattle.crystal_spec.proofs.Images.{occupied_itself}
-use Rattle.basis_spec.specs.Positions.{origin}
+use Rattle.positions.specs.Positions.{origin}
 use Rattle.basis_spec.specs.Bases.{SameCrystal}
 use Rattle.basis_spec.proofs.MatrixLaws.{sum_of-origin}
 use Rattle.basis_spec.proofs.PrimitiveCell.{differs_sym, differs_trans, differs_at, differs_itself}

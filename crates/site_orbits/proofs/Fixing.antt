@@ -2,11 +2,10 @@
 use Rattle.std.proofs.Common.{◌≡◌, sym, ap, subst, ◌∙◌, ◌⊎◌, inl, inr, List, [], ◌∷◌, ◌++◌, map}
 use Rattle.std.specs.Prelude.{◌↔◌}
 use Rattle.std.proofs.lemmas.List.{map_push}
-use Rattle.crystal_spec.specs.Increasing.{IsMember}
+use Rattle.lists.specs.Increasing.{IsMember}
+use Rattle.lists.specs.Any.{AnyOf}
+use Rattle.lists.proofs.Members.{mapped_from, mapped_member, IsMember-pushed}
 use Rattle.crystal_spec.specs.Operations.{Operation}
-use Rattle.lattice_iso.specs.Columns.{AnyOf}
-use Rattle.lattice_iso.proofs.Members.{IsMember-pushed}
-use Rattle.basis_spec.proofs.FirstAtoms.{mapped_from, mapped_member}
 use Rattle.op_group.specs.Views.{operation_of}
 use Rattle.op_group.specs.declared.operation.Op.{Op}
 

@@ -3,11 +3,11 @@
 use Rattle.std.proofs.Common.{◌≡◌, ◌≤◌, ◌⊎◌, ◌+ℤ◌, ◌*ℤ◌, ℕ, zero, suc, List, [], ◌∷◌, refl, sym, ap, subst, inl, inr, arith}
 use Rattle.std.specs.Prelude.{ℤ, pos, negsuc, slice_get, Some}
 use Rattle.std.proofs.lemmas.Int.{ints}
+use Rattle.lists.specs.Increasing.{IsMember}
 use Rattle.crystal_spec.specs.declared.Sign.TheVariants.{Same}
 use Rattle.crystal_spec.specs.Matrices.{Triple, identity, image}
 use Rattle.crystal_spec.specs.Moments.{axial_vectors}
 use Rattle.crystal_spec.specs.Crystals.{Site, Structure}
-use Rattle.crystal_spec.specs.Increasing.{IsMember}
 use Rattle.crystal_spec.specs.Operations.{Operation}
 use Rattle.site_orbits.specs.Orbits.{Carries, IsAlike, IsFixedBy, ListsSite, IsInOrbit, CountsOrbit, IsFirstAlike}
 

@@ -1,4 +1,3 @@
-mod Walking
 pub mod Carrying
 pub mod Equivalence
 mod Counting

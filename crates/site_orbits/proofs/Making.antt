@@ -3,17 +3,17 @@ use Rattle.std.proofs.Common.{◌≡◌, sym, ap, subst, ◌∙◌, ℕ, pos, �
 use Rattle.std.specs.Prelude.{◌↔◌, slice_get, Some}
 use Rattle.std.proofs.lemmas.Int.{ints}
 use Rattle.std.proofs.lemmas.Option.{slice_get_within}
+use Rattle.lists.specs.Increasing.{IsIncreasing, IsMember}
+use Rattle.lists.proofs.Members.{member_at, slice_get_pushed}
 use Rattle.crystal_spec.specs.Matrices.{Triple, Matrix, image}
 use Rattle.crystal_spec.specs.Moments.{turn_matrix}
 use Rattle.crystal_spec.specs.Crystals.{Site, Structure}
-use Rattle.crystal_spec.specs.Increasing.{IsIncreasing, IsMember}
 use Rattle.crystal_spec.specs.Operations.{Operation, compare_of, ListsAll}
 use Rattle.crystal_spec.specs.Cells.{IsCell}
 use Rattle.crystal_spec.proofs.Images.{IsApart, occupied_itself, one_atom_each_of_apart}
 use Rattle.crystal.specs.Cells.{IsCellWithinLimits}
 use Rattle.crystal.proofs.CellLemmas.{apart_cell}
-use Rattle.crystal.proofs.ImageLemmas.{member_at}
-use Rattle.basis_spec.specs.Positions.{residue}
+use Rattle.positions.specs.Positions.{modulo}
 use Rattle.basis_spec.specs.Bases.{SameCrystal}
 use Rattle.op_group.specs.Groups.{IsGroupModulo}
 use Rattle.op_group.proofs.GroupLaws.{group_of_all}
@@ -25,7 +25,6 @@ use Rattle.site_orbits.proofs.Counting.{counts_orbit, first_alike, some_same}
 use Rattle.site_orbits.proofs.Equivalence.{equivalence_of_group, one_species}
 use Rattle.site_orbits.proofs.Fixing.{either_way}
 use Rattle.site_orbits.proofs.Stabilizer.{orbit_stabilizer}
-use Rattle.site_orbits.proofs.Walking.{slice_get_pushed}
 
 positive_n : (n : ℕ) → 1 ≤ n → pos 0 <ℤ pos n
 positive_n n h = omega (arith, ints, h)
@@ -34,7 +33,7 @@ positive_n n h = omega (arith, ints, h)
 pub record IsFound (c : Structure) (r : Matrix) (b : Structure) (os : List Operation) (i m : ℕ) (p : Triple) (qs : List Triple) (o : AtomOrbit) : Type 0 where
   pub site : Site
   pub is_site : slice_get c.sites i ≡ Some site
-  pub place_is : p ≡ residue c.n (image r site.position)
+  pub place_is : p ≡ modulo c.n (image r site.position)
   pub images_are : qs ≡ map (image_within m p) os
   pub first : IsFirstAmong c.n r qs c.sites i o.first
   pub size : o.size ≡ length (atoms_at qs b.sites)
@@ -72,16 +71,16 @@ module _ (c b : Structure) (r : Matrix) (os : List Operation) (cell : IsCell c) 
       apart : IsApart b
       apart = apart_cell b primitive
 
-      place_c : p ≡ residue c.n q
-      place_c = found.place_is ∙ ap (λ (x : Site). residue c.n (image r x.position)) (some_same found.site a (sym found.is_site ∙ at))
+      place_c : p ≡ modulo c.n q
+      place_c = found.place_is ∙ ap (λ (x : Site). modulo c.n (image r x.position)) (some_same found.site a (sym found.is_site ∙ at))
 
-      place_b : p ≡ residue b.n q
-      place_b = place_c ∙ ap (λ (n : ℕ). residue n q) (sym same.n)
+      place_b : p ≡ modulo b.n q
+      place_b = place_c ∙ ap (λ (n : ℕ). modulo n q) (sym same.n)
 
-      images_b : qs ≡ map (image_within b.n (residue b.n q)) os
+      images_b : qs ≡ map (image_within b.n (modulo b.n q)) os
       images_b = found.images_are ∙ (λ k. map (image_within (same_m k) (place_b k)) os)
 
-      images_c : qs ≡ map (image_within c.n (residue c.n q)) os
+      images_c : qs ≡ map (image_within c.n (modulo c.n q)) os
       images_c = found.images_are ∙ (λ k. map (image_within ((same_m ∙ same.n) k) (place_c k)) os)
 
       counts : CountsOrbit b os q o.size

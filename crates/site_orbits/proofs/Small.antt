@@ -4,7 +4,7 @@ use Rattle.crystal_spec.specs.Matrices.{Matrix, transposed}
 use Rattle.crystal_spec.specs.Crystals.{Structure, KeepsMetric}
 use Rattle.crystal_spec.specs.Operations.{Operation, ListsAll}
 use Rattle.lattice_spec.specs.Niggli.{IsNiggli}
-use Rattle.crystal.specs.Bounds.{EntriesAtMost}
+use Rattle.matrix3.specs.Bounds.{EntriesAtMost}
 use Rattle.lattice_iso.proofs.ByColumns.{entries_of_short}
 use Rattle.site_orbits.specs.Images.{HasSmallEntries}
 

@@ -4,17 +4,16 @@
 -- after it such a member give a member of the group; each is given once so. For two of these that give the same carry the
 -- position to the same atom, so they are the same, and may be undone; and any member carries the position to an atom of the
 -- orbit, so with the inverse of the member that was fixed for that atom after it, it leaves the position.
-use Rattle.std.proofs.Common.{◌≡◌, refl, sym, ap, subst, ◌∙◌, ◌⊎◌, inl, inr, ℕ, suc, ◌+◌, ◌*◌, ◌≤◌, List, [], ◌∷◌, ◌++◌, length, map, arith}
-use Rattle.std.proofs.lemmas.List.{length-map}
+use Rattle.std.proofs.Common.{◌≡◌, refl, sym, ap, subst, ◌∙◌, ◌⊎◌, inl, inr, ℕ, suc, ◌*◌, ◌≤◌, List, [], ◌∷◌, length, arith}
+use Rattle.lists.specs.Increasing.{IsMember, IsDistinct}
+use Rattle.lists.proofs.Increasing.{increasing_distinct}
+use Rattle.lists.proofs.Counting.{length_le}
+use Rattle.lists.proofs.Pairs.{pairs, pair_of, pair_member, pairs_length, OneToOne, pairs_distinct}
 use Rattle.crystal_spec.specs.Matrices.{Triple}
 use Rattle.crystal_spec.specs.Crystals.{Site, Structure, Occupied, position_after}
-use Rattle.crystal_spec.specs.Increasing.{IsMember, IsDistinct}
 use Rattle.crystal_spec.specs.Operations.{Operation, compare_of, ListsAll}
 use Rattle.crystal_spec.specs.Cells.{DiffersByCells, HasOneAtomEach}
 use Rattle.crystal_spec.proofs.Ordered.{compare_total}
-use Rattle.basis_spec.proofs.TranslationLists.{increasing_distinct}
-use Rattle.basis_spec.proofs.Counting.{length_le, mapped_once}
-use Rattle.basis_spec.proofs.FirstAtoms.{mapped_from, mapped_member}
 use Rattle.basis_spec.proofs.PrimitiveCell.{differs_sym, differs_trans, differs_itself}
 use Rattle.op_group.specs.Composition.{identity_operation, IsComposed, IsInverseModulo}
 use Rattle.op_group.specs.Groups.{IsGroupModulo}
@@ -23,94 +22,6 @@ use Rattle.op_group.proofs.GroupLaws.{composed_member, composition, composition_
 use Rattle.site_orbits.specs.Orbits.{Carries, IsAlike, IsFixedBy, ListsSite, CountsOrbit}
 use Rattle.site_orbits.proofs.Carrying.{carries_as}
 use Rattle.site_orbits.proofs.Equivalence.{carries_composed, carries_back}
-
--- ---- lists of all pairs
-member_left : {X : Type 0} (z : X) (xs ys : List X) → IsMember z xs → IsMember z (xs ++ ys)
-member_left z [] ys m = absurd m
-member_left z (x ∷ xs) ys (inl e) = inl e
-member_left z (x ∷ xs) ys (inr m) = inr (member_left z xs ys m)
-
-member_right : {X : Type 0} (z : X) (xs ys : List X) → IsMember z ys → IsMember z (xs ++ ys)
-member_right z [] ys m = m
-member_right z (x ∷ xs) ys m = inr (member_right z xs ys m)
-
-member_either : {X : Type 0} (z : X) (xs ys : List X) → IsMember z (xs ++ ys) → IsMember z xs ⊎ IsMember z ys
-member_either z [] ys m = inr m
-member_either z (x ∷ xs) ys (inl e) = inl (inl e)
-member_either z (x ∷ xs) ys (inr m) = by (member_either z xs ys m)
-  where
-    by : IsMember z xs ⊎ IsMember z ys → IsMember z (x ∷ xs) ⊎ IsMember z ys
-    by (inl k) = inl (inr k)
-    by (inr k) = inr k
-
-distinct_both : {X : Type 0} (xs ys : List X) → IsDistinct xs → IsDistinct ys → ((z : X) → IsMember z xs → IsMember z ys → ⊥) → IsDistinct (xs ++ ys)
-distinct_both [] ys d e apart = e
-distinct_both {X} (x ∷ xs) ys d e apart = (new, distinct_both xs ys d.1 e (λ z m k. apart z (inr m) k))
-  where
-    by : IsMember x xs ⊎ IsMember x ys → ⊥
-    by (inl m) = d.0 m
-    by (inr m) = apart x (inl refl) m
-
-    new : IsMember x (xs ++ ys) → ⊥
-    new m = by (member_either x xs ys m)
-
-length_both : {X : Type 0} (xs ys : List X) → length (xs ++ ys) ≡ length xs + length ys
-length_both [] ys = omega arith
-length_both (x ∷ xs) ys = let e = length_both xs ys in omega (arith, e)
-
--- h of each x and y
-pairs : {X Y Z : Type 0} → (X → Y → Z) → List X → List Y → List Z
-pairs h [] ys = []
-pairs h (x ∷ xs) ys = map (h x) ys ++ pairs h xs ys
-
-record PairOf {X Y Z : Type 0} (h : X → Y → Z) (xs : List X) (ys : List Y) (z : Z) : Type 0 where
-  left : X
-  right : Y
-  of_left : IsMember left xs
-  of_right : IsMember right ys
-  is : z ≡ h left right
-
-pair_of : {X Y Z : Type 0} (h : X → Y → Z) (xs : List X) (ys : List Y) (z : Z) → IsMember z (pairs h xs ys) → PairOf h xs ys z
-unfolding pairs
-pair_of h [] ys z m = absurd m
-pair_of h (x ∷ xs) ys z m = by (member_either z (map (h x) ys) (pairs h xs ys) m) (pair_of h xs ys z)
-  where
-    by : IsMember z (map (h x) ys) ⊎ IsMember z (pairs h xs ys) → (IsMember z (pairs h xs ys) → PairOf h xs ys z) → PairOf h (x ∷ xs) ys z
-    by (inl k) rec = let r = mapped_from (h x) z ys k in record { left = x; right = r.item; of_left = inl refl; of_right = r.of_list; is = r.is }
-    by (inr k) rec = let r = rec k in record { left = r.left; right = r.right; of_left = inr r.of_left; of_right = r.of_right; is = r.is }
-
-pair_member : {X Y Z : Type 0} (h : X → Y → Z) (x : X) (y : Y) (xs : List X) (ys : List Y) → IsMember x xs → IsMember y ys → IsMember (h x y) (pairs h xs ys)
-unfolding pairs
-pair_member h x y [] ys m k = absurd m
-pair_member {X} {Y} {Z} h x y (a ∷ xs) ys (inl e) k = member_left (h x y) (map (h a) ys) (pairs h xs ys) (subst (λ (b : X). IsMember (h x y) (map (h b) ys)) e (mapped_member (h x) y ys k))
-pair_member h x y (a ∷ xs) ys (inr m) k = member_right (h x y) (map (h a) ys) (pairs h xs ys) (pair_member h x y xs ys m k)
-
-more_rows : (a b n l : ℕ) → l ≡ n * b → b + l ≡ suc n * b
-more_rows a b n l e = omega (arith, e)
-
-pairs_length : {X Y Z : Type 0} (h : X → Y → Z) (xs : List X) (ys : List Y) → length (pairs h xs ys) ≡ length xs * length ys
-unfolding pairs
-pairs_length h [] ys = omega arith
-pairs_length h (x ∷ xs) ys = length_both (map (h x) ys) (pairs h xs ys) ∙ ap (λ n. n + length (pairs h xs ys)) (length-map ys (h x)) ∙ more_rows 0 (length ys) (length xs) (length (pairs h xs ys)) (pairs_length h xs ys)
-
--- h is one to one on the members
-record OneToOne {X Y Z : Type 0} (h : X → Y → Z) (xs : List X) (ys : List Y) : Type 0 where
-  left : (x x' : X) (y y' : Y) → IsMember x xs → IsMember x' xs → IsMember y ys → IsMember y' ys → h x y ≡ h x' y' → x ≡ x'
-  right : (x : X) (y y' : Y) → IsMember x xs → IsMember y ys → IsMember y' ys → h x y ≡ h x y' → y ≡ y'
-
-pairs_distinct : {X Y Z : Type 0} (h : X → Y → Z) (xs : List X) (ys : List Y) → IsDistinct xs → IsDistinct ys → OneToOne h xs ys → IsDistinct (pairs h xs ys)
-unfolding pairs
-pairs_distinct h [] ys d e one = tt
-pairs_distinct {X} {Y} {Z} h (x ∷ xs) ys d e one = distinct_both (map (h x) ys) (pairs h xs ys)
-    (mapped_once (h x) ys e (λ a b m k f. one.right x a b (inl refl) m k f))
-    (pairs_distinct h xs ys d.1 e (record { left = λ a b u v m n k l f. one.left a b u v (inr m) (inr n) k l f; right = λ a u v m k l f. one.right a u v (inr m) k l f }))
-    apart
-  where
-    apart : (z : Z) → IsMember z (map (h x) ys) → IsMember z (pairs h xs ys) → ⊥
-    apart z m k =
-        let r = mapped_from (h x) z ys m in
-        let q = pair_of h xs ys z k in
-        d.0 (subst (λ (a : X). IsMember a xs) (sym (one.left x q.left r.item q.right (inl refl) (inr q.of_left) r.of_list q.of_right (sym r.is ∙ q.is))) q.of_left)
 
 -- ---- one member for each atom
 -- where an operation carries a position to two positions, these differ by whole cells

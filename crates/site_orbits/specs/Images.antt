@@ -6,21 +6,21 @@
 --   atoms_at qs sites               the atoms at one of the positions qs
 --   IsFirstAmong n r qs sites i j   j is the number of the first atom that is at one of qs so, or i where none before i is
 use Rattle.std.specs.Prelude.{◌≡◌, ◌⊎◌, ℕ, ◌≤◌, ◌<◌, Bool, true, false, ◌||◌, List, [], ◌∷◌, slice_get, Some}
+use Rattle.lists.specs.Increasing.{IsMember}
 use Rattle.crystal_spec.specs.Matrices.{Triple, Matrix, image}
 use Rattle.crystal_spec.specs.Crystals.{Site, position_after}
-use Rattle.crystal_spec.specs.Increasing.{IsMember}
 use Rattle.crystal_spec.specs.Operations.{Operation}
-use Rattle.crystal.specs.Bounds.{EntriesAtMost}
-use Rattle.basis_spec.specs.Positions.{residue}
+use Rattle.matrix3.specs.Bounds.{EntriesAtMost}
+use Rattle.positions.specs.Positions.{modulo}
 use Rattle.basis_spec.specs.Bases.{is_same_position}
 
 -- W p + w modulo n
 abbrev pub image_within : ℕ → Triple → Operation → Triple
-image_within n p o = residue n (position_after o.matrix o.translation p)
+image_within n p o = modulo n (position_after o.matrix o.translation p)
 
 -- R p modulo n
 abbrev pub position_in : ℕ → Matrix → Site → Triple
-position_in n r a = residue n (image r a.position)
+position_in n r a = modulo n (image r a.position)
 
 -- entries -1, 0 and 1
 abbrev pub HasSmallEntries : List Operation → Type 0

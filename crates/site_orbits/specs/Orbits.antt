@@ -10,9 +10,9 @@
 --   IsEquivalence alike        being alike is reflexive, symmetric and transitive
 --   HasOneSpecies c r alike    atoms of c with alike positions in that basis are of one species
 use Rattle.std.specs.Prelude.{◌≡◌, ◌↔◌, ℕ, ◌≤◌, List, length, slice_get, Some}
+use Rattle.lists.specs.Increasing.{IsIncreasing, IsMember, IsDistinct}
 use Rattle.crystal_spec.specs.Matrices.{Triple, Matrix, image}
 use Rattle.crystal_spec.specs.Crystals.{Site, Structure, position_after}
-use Rattle.crystal_spec.specs.Increasing.{IsIncreasing, IsMember, IsDistinct}
 use Rattle.crystal_spec.specs.Operations.{Operation, compare_of}
 use Rattle.crystal_spec.specs.Cells.{DiffersByCells}
 

@@ -8,9 +8,9 @@ ghost use Rattle.site_orbits.specs.Entries.{IsOrbitAt, HaveOrbits};
 
 use crate::atom_orbits::{Entry, Orbits};
 use crate::images::{count_among, first_among, fixing, images};
-use crate::position::place_in_basis;
 use crystal::Cell;
 use op_group::OpList;
+use positions::MatrixModulo;
 use prim_cell::Primitive;
 use std::alloc::{AllocError, Global};
 
@@ -32,7 +32,7 @@ fn orbit_of(
     let _index = prim.index();
     let _count = cell.count();
     let _form = prim.cell().count();
-    let place = place_in_basis(prim.back(), cell.atom(i).place, cell.n());
+    let place = MatrixModulo::new(prim.back(), cell.n()).image(cell.atom(i).place);
     let images = images(alloc, list, place)?;
     let first = first_among(cell, prim.back(), &images, i);
     let size = count_among(prim.cell(), &images);

@@ -1,18 +1,19 @@
 // The images of a position under a list of operations, the atoms at them, and the operations that leave the position.
 
 ghost use Rattle.std.specs.Prelude.{◌≡◌, ◌↔◌, ◌⊎◌, ◌<◌, ◌≤◌, ◌^◌, length, map, IfOk, OnOk, IsTrue};
-ghost use Rattle.crystal_spec.specs.Increasing.{IsIncreasing, IsMember};
+ghost use Rattle.lists.specs.Increasing.{IsIncreasing, IsMember};
 ghost use Rattle.crystal_spec.specs.Operations.{Operation, compare_of};
-ghost use Rattle.crystal.specs.Views.{triple_of};
-ghost use Rattle.crystal.specs.Bounds.{EntriesAtMost};
+ghost use Rattle.positions.specs.Positions.{triple_of};
+ghost use Rattle.matrix3.specs.Bounds.{EntriesAtMost};
 ghost use Rattle.op_group.specs.Views.{operation_of};
 ghost use Rattle.site_orbits.specs.Images.{image_within, HasSmallEntries, atoms_at, IsFirstAmong};
 
-use crate::position::{carried, is_same, place_in_basis};
+use crate::position::{carried, is_same};
 use crystal::Cell;
 use exact_num::Int;
 use matrix3::Mat3;
 use op_group::{Op, OpList};
+use positions::MatrixModulo;
 use std::alloc::{AllocError, Global};
 
 /// Where the operations of the list carry a position, modulo n, in their order.
@@ -52,14 +53,13 @@ fn is_among(images: &[[u32; 3]], place: [u32; 3]) -> bool
 /// The number of the first atom whose position in the basis to which R takes coordinates is one of the images, or `i` where
 /// none before the atom number i is.
 pub(crate) fn first_among(cell: &Cell, r: &Mat3<Int>, images: &[[u32; 3]], i: usize) -> usize
-    requires basis { EntriesAtMost 50000000 r.now }
     requires below { i < length cell.now.sites }
     ensures { IsFirstAmong cell.now.n r.now (map triple_of images.now) cell.now.sites i result }
 {
     let _form = cell.count();
-    let n = cell.n();
+    let basis = MatrixModulo::new(r, cell.n());
     for j in 0..i {
-        if is_among(images, place_in_basis(r, cell.atom(j).place, n)) {
+        if is_among(images, basis.image(cell.atom(j).place)) {
             return j;
         }
     }

@@ -13,4 +13,3 @@ mod position;
 
 pub use atom_orbits::Orbits;
 pub use equivalent::orbits;
-pub use position::place_in_basis;

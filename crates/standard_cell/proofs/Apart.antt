@@ -4,9 +4,9 @@ use Rattle.std.specs.declared.cmp.Ordering.TheVariants.{Equal}
 use Rattle.std.specs.Ordering.{int_cmp}
 use Rattle.std.specs.Cmp.Lexicographic.{slice_cmp}
 use Rattle.std.proofs.lemmas.Cmp.{tied_itself}
+use Rattle.lists.specs.Increasing.{IsBelowAll, IsIncreasing, IsMember}
 use Rattle.matrix3.specs.Matrices.{coordinates}
 use Rattle.crystal_spec.specs.Matrices.{Triple, Matrix, multiple, sum_of, difference}
-use Rattle.crystal_spec.specs.Increasing.{IsBelowAll, IsIncreasing, IsMember}
 use Rattle.crystal_spec.specs.Crystals.{Site, Structure}
 use Rattle.crystal_spec.proofs.Identities.{by_triples}
 use Rattle.ring.specs.Ring.{var, quoted}

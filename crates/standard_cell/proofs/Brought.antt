@@ -3,6 +3,7 @@
 use Rattle.std.proofs.Common.{◌≡◌, ℕ, suc, zero, ℤ, pos, negsuc, ◌*ℤ◌, ◌<ℤ◌, ◌≤ℤ◌, Bool, true, false, List, [], ◌∷◌, ◌++◌, refl, sym, ◌∙◌, ap, subst, arith}
 use Rattle.std.specs.Prelude.{if◌then◌else◌, unsigned_abs}
 use Rattle.std.proofs.lemmas.Int.{ints}
+use Rattle.lists.specs.Increasing.{IsMember}
 use Rattle.matrix3.specs.Matrices as formulas
 use Rattle.ring.specs.Ring.{var, quoted, ◌:*◌}
 use Rattle.ring.proofs.IntOrder.{mul_pos}
@@ -10,13 +11,12 @@ use Rattle.matrix3.specs.Matrices.{entries, coordinates, matrix_of_variables, ve
 use Rattle.crystal_spec.specs.declared.MomentKind.{MomentKind}
 use Rattle.crystal_spec.specs.Matrices.{Triple, Matrix, product, image, determinant, adjugate, identity, multiple, sum_of, difference, matrix_multiple}
 use Rattle.crystal_spec.specs.Moments.{axial_factor, turn_matrix, moment_matrix, divisor}
-use Rattle.crystal_spec.specs.Increasing.{IsMember}
 use Rattle.crystal_spec.specs.Crystals.{Structure, Occupied, Keeps, position_after, moment_after}
 use Rattle.crystal_spec.specs.Operations.{Operation, sign_factor, ListsAll}
 use Rattle.crystal_spec.proofs.Identities.{by_integers, by_triples, by_matrices}
 use Rattle.crystal_spec.proofs.Isometries.{determinant-isometry, determinant-product, sign_squared, image-adjugate, multiple-one}
 use Rattle.basis_spec.specs.Metrics.{metric_in}
-use Rattle.basis_spec.specs.Positions.{residue}
+use Rattle.positions.specs.Positions.{modulo}
 use Rattle.crystal_spec.specs.Cells.{IsCell}
 use Rattle.basis_spec.specs.Maps.{HasImage, IsImage, sign_of}
 use Rattle.basis_spec.specs.Carrying.{KeepsAny, IsListed}
@@ -264,5 +264,5 @@ module _ (c s : Structure) (q : Matrix) (p : Point) (st : IsStandard c q p s) (a
             (formulas.multiple quoted (var 0) (formulas.multiple quoted (var 1) (formulas.sum_of quoted (formulas.multiple quoted (var 2) (vector_of_variables 4)) (formulas.multiple quoted (var 3) (formulas.difference quoted (vector_of_variables 7) (vector_of_variables 10))))))
             (formulas.multiple quoted (var 1) (formulas.difference quoted (formulas.sum_of quoted (formulas.multiple quoted (var 0 :* var 2) (vector_of_variables 4)) (formulas.multiple quoted (var 0 :* var 3) (vector_of_variables 7))) (formulas.multiple quoted (var 3) (formulas.multiple quoted (var 0) (vector_of_variables 10))))) refl
 
-    pub of_list : IsMember (record { matrix = found; translation = residue c.n found_part; sign = o.sign }) ms
+    pub of_list : IsMember (record { matrix = found; translation = modulo c.n found_part; sign = o.sign }) ms
     of_list = listed.of_list

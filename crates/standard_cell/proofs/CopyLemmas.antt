@@ -1,12 +1,12 @@
 -- The copies of an atom in the new basis are the atoms at the triples t that meet its goal, and these come in order.
 use Rattle.std.proofs.Common.{◌≡◌, ℕ, ◌≤◌, ℤ, pos, ◌+ℤ◌, ◌*ℤ◌, ◌<ℤ◌, ◌≤ℤ◌, inl, inr, List, ◌∷◌, ◌++◌, refl, sym, ap, subst, ◌∙◌, arith}
 use Rattle.std.proofs.lemmas.Int.{ints}
+use Rattle.lists.specs.Increasing.{IsMember}
 use Rattle.matrix3.specs.Matrices as formulas
 use Rattle.ring.specs.Ring.{var, quoted, ◌:*◌}
 use Rattle.ring.proofs.IntOrder.{mul_pos}
 use Rattle.matrix3.specs.Matrices.{entries, coordinates, matrix_of_variables, vector_of_variables}
 use Rattle.crystal_spec.specs.Matrices.{Triple, image, determinant, adjugate, multiple, sum_of, difference}
-use Rattle.crystal_spec.specs.Increasing.{IsMember}
 use Rattle.crystal_spec.specs.Crystals.{Site, Structure}
 use Rattle.crystal_spec.proofs.Identities.{by_triples}
 use Rattle.basis_spec.proofs.Cancelling.{mul_cancel, multiple_cancel}

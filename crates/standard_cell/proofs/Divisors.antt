@@ -2,12 +2,12 @@
 -- these numerators and e the greatest common divisor is g, and e / g is the least common denominator.
 use Rattle.std.proofs.Common.{◌≡◌, ℕ, ◌≤◌, ℤ, pos, negsuc, neg_ℤ, ◌+ℤ◌, ◌*ℤ◌, ◌<ℤ◌, ◌≤ℤ◌, [], ◌∷◌, ◌++◌, refl, sym, ◌∙◌, ap, subst, arith}
 use Rattle.std.proofs.lemmas.Int.{ints}
+use Rattle.lists.specs.Increasing.{IsMember}
 use Rattle.matrix3.specs.Matrices as formulas
 use Rattle.ring.specs.Ring.{var, con, quoted, ◌:+◌, ◌:-◌, ◌:*◌}
 use Rattle.ring.proofs.IntOrder.{mul_pos, mul_nonneg, le_by}
 use Rattle.matrix3.specs.Matrices.{entries, coordinates, matrix_of_variables, vector_of_variables}
 use Rattle.crystal_spec.specs.Matrices.{Triple, Matrix, image, determinant, adjugate, multiple, sum_of, difference}
-use Rattle.crystal_spec.specs.Increasing.{IsMember}
 use Rattle.crystal_spec.specs.Crystals.{Site, Structure}
 use Rattle.crystal_spec.proofs.Identities.{by_integers, by_triples}
 use Rattle.crystal_spec.specs.Cells.{DiffersByCells}

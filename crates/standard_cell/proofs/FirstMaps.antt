@@ -5,7 +5,7 @@ use Rattle.std.proofs.lemmas.Int.{ints}
 use Rattle.ring.specs.Size.{AtMost}
 use Rattle.ring.proofs.IntRing.{one-*ℤ}
 use Rattle.matrix3.specs.Matrices.{EachEntry}
-use Rattle.matrix3.proofs.FitsBySize.{product_size}
+use Rattle.matrix3.proofs.FitsBySize.{product_size, entries_grown}
 use Rattle.crystal_spec.specs.Matrices.{Matrix, determinant}
 use Rattle.crystal_spec.specs.Operations.{Operation}
 use Rattle.crystal_spec.proofs.Isometries.{determinant-product}
@@ -16,7 +16,6 @@ use Rattle.op_group.specs.Groups.{IsGroupModulo}
 use Rattle.match_spec.specs.Points.{Point}
 use Rattle.match_spec.specs.FirstMap.{IsFirstMap}
 use Rattle.match_spec.proofs.ListedGroups.{some_cells, closed_of, index_small, step_facts}
-use Rattle.group_match.proofs.Sized.{matrix_larger}
 use Rattle.group_match.proofs.TaskLemmas.{class_size}
 use Rattle.standard_cell.specs.Conditions.{CanTake}
 
@@ -34,7 +33,7 @@ can_take h ms n class turn p g k =
     let index : pos s.index ≡ determinant k.step = index_found 12 (InLattice 12 h) (list_lattice 12 h some (closed_of 12 h g)) some s.index k.step s.fore s.steps in
     let same : determinant turn ≡ determinant k.step = ap determinant k.turn_is ∙ determinant-product class k.step ∙ ap (λ (z : ℤ). z *ℤ determinant k.step) k.first.class.proper ∙ one-*ℤ (determinant k.step) in
     record {
-      entries = subst (EachEntry (AtMost 5184)) (sym k.turn_is) (matrix_larger (lit≤ tt) (product_size class k.step (class_size class k.first.class) facts.small));
+      entries = subst (EachEntry (AtMost 5184)) (sym k.turn_is) (entries_grown (lit≤ tt) (product_size class k.step (class_size class k.first.class) facts.small));
       at_least = subst (λ (z : ℤ). pos 1 ≤ℤ z) (sym same) (at_least (determinant k.step) facts.above);
       at_most = subst (λ (z : ℤ). z ≤ℤ pos 1728) (index ∙ sym same) (at_most s.index (index_small 12 (InLattice 12 h) s.index k.step s.fore s.steps));
       in_cell = k.first.least_origin.in_cell;

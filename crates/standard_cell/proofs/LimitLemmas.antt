@@ -1,18 +1,19 @@
 -- Tests of sizes, and of one fact after another.
-use Rattle.std.proofs.Common.{◌≡◌, ℕ, ◌+◌, ℤ, pos, negsuc, ◌*ℤ◌, ◌<ℤ◌, ◌≤ℤ◌, Bool, true, false, List, [], ◌∷◌, ◌++◌, take, inl, inr, ◌⊎◌, refl, sym, ap, subst, arith}
+use Rattle.std.proofs.Common.{◌≡◌, ℕ, ◌+◌, ℤ, pos, negsuc, ◌*ℤ◌, ◌<ℤ◌, ◌≤ℤ◌, Bool, true, false, List, [], ◌∷◌, take, refl, sym, ap, subst, arith}
 use Rattle.std.specs.Prelude.{if◌then◌else◌, unsigned_abs, slice_get, Some}
 use Rattle.std.proofs.lemmas.Int.{ints}
 use Rattle.ring.specs.Ring.{var, ◌:*◌}
 use Rattle.ring.specs.Size.{AtMost}
+use Rattle.lists.specs.Increasing.{IsMember}
+use Rattle.lists.proofs.Walks.{take_at}
+use Rattle.lists.proofs.Members.{each_pushed}
 use Rattle.crystal_spec.specs.declared.MomentKind.{MomentKind}
 use Rattle.crystal_spec.specs.Moments.{divisor}
-use Rattle.crystal_spec.specs.Increasing.{IsMember}
 use Rattle.crystal_spec.specs.Crystals.{Site}
 use Rattle.crystal_spec.proofs.Identities.{by_integers}
 use Rattle.crystal.specs.declared.metric.Metric.{Metric}
 use Rattle.crystal.specs.Views.{metric_of}
-use Rattle.crystal.specs.Bounds.{EntriesAtMost}
-use Rattle.prim_cell.proofs.Making.{taken_more}
+use Rattle.matrix3.specs.Bounds.{EntriesAtMost}
 
 pub not_zero : (d : ℤ) → pos 0 <ℤ d → d ≡ pos 0 → ⊥
 not_zero d h e = omega (arith, ints)
@@ -34,20 +35,7 @@ metric_sizes aa bb cc bc ac ab = record { a11 = aa; a12 = ab; a13 = ac; a21 = ab
 
 -- what holds of each so far and of one more
 pub each_more : (P : Site → Type 0) (xs : List Site) (i : ℕ) (x : Site) → slice_get xs i ≡ Some x → ((a : Site) → IsMember a (take i xs) → P a) → P x → (a : Site) → IsMember a (take (i + 1) xs) → P a
-each_more P xs i x e h p a m = by (pushed (take i xs) a (subst (λ (l : List Site). IsMember a l) (sym (taken_more xs i x e)) m))
-  where
-    pushed : (ys : List Site) (z : Site) → IsMember z (ys ++ x ∷ []) → (z ≡ x) ⊎ IsMember z ys
-    pushed [] z m = m
-    pushed (y ∷ ys) z (inl e) = inr (inl e)
-    pushed (y ∷ ys) z (inr m) = by_rest (pushed ys z m)
-      where
-        by_rest : (z ≡ x) ⊎ IsMember z ys → (z ≡ x) ⊎ IsMember z (y ∷ ys)
-        by_rest (inl e) = inl e
-        by_rest (inr k) = inr (inr k)
-
-    by : (a ≡ x) ⊎ IsMember a (take i xs) → P a
-    by (inl e) = subst P (sym e) p
-    by (inr k) = h a k
+each_more P xs i x e h p a m = each_pushed P (take i xs) x h p a (subst (λ (l : List Site). IsMember a l) (sym (take_at xs i x e)) m)
 
 -- the divisor of moments
 pub divisor_vector : (kind : MomentKind) (d : ℕ) → kind.vector ≡ true → divisor kind d ≡ d

@@ -2,12 +2,12 @@
 -- in the units of that cell.
 use Rattle.std.proofs.Common.{◌≡◌, ℕ, ℤ, pos, negsuc, ◌*ℤ◌, ◌<ℤ◌, ◌∷◌, ◌++◌, refl, sym, ◌∙◌, ap, subst, arith}
 use Rattle.std.proofs.lemmas.Int.{ints}
+use Rattle.lists.specs.Increasing.{IsMember}
 use Rattle.matrix3.specs.Matrices as formulas
 use Rattle.ring.specs.Ring.{var, con, quoted, ◌:*◌}
 use Rattle.matrix3.specs.Matrices.{entries, coordinates, matrix_of_variables, vector_of_variables}
 use Rattle.crystal_spec.specs.Matrices.{Triple, Matrix, product, image, determinant, adjugate, multiple, sum_of, difference}
 use Rattle.crystal_spec.specs.Moments.{turn_matrix}
-use Rattle.crystal_spec.specs.Increasing.{IsMember}
 use Rattle.crystal_spec.specs.Crystals.{Site, Structure, Occupied, Keeps, KeepsMetric, IsPositive, position_after, moment_after}
 use Rattle.crystal_spec.specs.Operations.{Operation, IsWithinCell, sign_factor}
 use Rattle.crystal_spec.proofs.Identities.{by_triples, by_matrices}
@@ -15,7 +15,7 @@ use Rattle.crystal_spec.proofs.Isometries.{determinant-isometry, sign_squared}
 use Rattle.crystal_spec.proofs.Images.{occupied_itself}
 use Rattle.crystal_spec.proofs.Keeping.{ComesFrom, keeps_both_ways}
 use Rattle.crystal_spec.proofs.Moments.{moment_after-turned}
-use Rattle.basis_spec.specs.Positions.{origin}
+use Rattle.positions.specs.Positions.{origin}
 use Rattle.basis_spec.specs.Metrics.{metric_in}
 use Rattle.crystal_spec.specs.Cells.{IsCell}
 use Rattle.basis_spec.proofs.MatrixLaws.{metric_in-product, multiple-sum_of, sum_assoc, product_assoc}

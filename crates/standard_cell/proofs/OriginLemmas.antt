@@ -3,6 +3,7 @@ use Rattle.std.proofs.Common.{◌≡◌, ℕ, ◌*◌, ◌^◌, ◌<◌, ◌≤�
 use Rattle.std.specs.Prelude.{unsigned_abs}
 use Rattle.std.specs.Int.{◌∣◌}
 use Rattle.std.proofs.lemmas.Int.{ints, unsigned_abs-mul}
+use Rattle.lists.specs.Increasing.{IsMember}
 use Rattle.matrix3.specs.Matrices as formulas
 use Rattle.ring.specs.Ring.{var, con, quoted, ◌:-◌, ◌:*◌}
 use Rattle.ring.specs.Size.{AtMost}
@@ -14,12 +15,11 @@ use Rattle.matrix3.specs.Matrices.{entries, coordinates, matrix_of_variables, ve
 use Rattle.exact_num.specs.Meanings.{fraction_of}
 use Rattle.exact_num.specs.declared.frac.Frac.{Frac}
 use Rattle.crystal_spec.specs.Matrices.{Triple, Matrix, image, determinant, multiple, sum_of, difference}
-use Rattle.crystal_spec.specs.Increasing.{IsMember}
 use Rattle.crystal_spec.specs.Crystals.{Site, Structure}
 use Rattle.crystal_spec.proofs.Identities.{by_integers, by_triples}
 use Rattle.crystal_spec.proofs.Entrywise.{triple_same}
 use Rattle.basis_spec.proofs.Cancelling.{mul_cancel, multiple_cancel}
-use Rattle.basis_spec.specs.Positions.{origin}
+use Rattle.positions.specs.Positions.{origin}
 use Rattle.match_spec.specs.Points.{Point, point, IsInCell}
 use Rattle.match_spec.specs.Fractions.{point_of}
 use Rattle.standard_cell.specs.declared.origin.Origin.{Origin}

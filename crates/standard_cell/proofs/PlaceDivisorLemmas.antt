@@ -1,13 +1,14 @@
 -- The divisor of all places, made of common divisors: first of e and the columns of n d adj(Q), then of the places of the atoms.
 use Rattle.std.proofs.Common.{◌≡◌, ℤ, pos, ◌*ℤ◌, ◌<ℤ◌, ◌⊎◌, inl, inr, List, [], ◌∷◌, ◌++◌, refl, sym, ap, subst, ◌∙◌}
+use Rattle.lists.specs.Increasing.{IsMember}
+use Rattle.lists.proofs.Members.{pushed_member, member_front, member_last}
 use Rattle.matrix3.specs.Matrices as formulas
 use Rattle.ring.specs.Ring.{var, con, quoted}
 use Rattle.matrix3.specs.Matrices.{entries, coordinates, matrix_of_variables, vector_of_variables}
 use Rattle.crystal_spec.specs.Matrices.{Triple, Matrix, image, adjugate, multiple, sum_of}
-use Rattle.crystal_spec.specs.Increasing.{IsMember}
 use Rattle.crystal_spec.specs.Crystals.{Site, Structure}
 use Rattle.crystal_spec.proofs.Identities.{by_triples}
-use Rattle.basis_spec.specs.Positions.{triple}
+use Rattle.positions.specs.Positions.{triple}
 use Rattle.basis_spec.proofs.MatrixLaws.{multiple_swap}
 use Rattle.match_spec.specs.Points.{Point, IsWhole}
 use Rattle.match_spec.proofs.Wholes.{whole_is, whole_plus}
@@ -83,31 +84,12 @@ more_places c q p sites a g h d w = record {
   whole = multiple_multiple g h (full q p (pos c.n)) d.whole w.of_left;
   steps = λ z. whole_divided g h (cells_of c q p z) (d.steps z) w.of_left;
   places = places;
-  greatest = λ k f above i each steps. w.greatest k f above (d.greatest k f above i (λ b m. each b (older sites b m)) steps) (each a (newest sites));
+  greatest = λ k f above i each steps. w.greatest k f above (d.greatest k f above i (λ b m. each b (member_front sites a b m)) steps) (each a (member_last sites a));
 }
   where
-    newest : (xs : List Site) → IsMember a (xs ++ a ∷ [])
-    newest [] = inl refl
-    newest (x ∷ xs) = inr (newest xs)
-
-    older : (xs : List Site) (b : Site) → IsMember b xs → IsMember b (xs ++ a ∷ [])
-    older [] b m = absurd m
-    older (x ∷ xs) b (inl e) = inl e
-    older (x ∷ xs) b (inr m) = inr (older xs b m)
-
-    either : (xs : List Site) (b : Site) → IsMember b (xs ++ a ∷ []) → IsMember b xs ⊎ (b ≡ a)
-    either [] b (inl e) = inr e
-    either [] b (inr m) = absurd m
-    either (x ∷ xs) b (inl e) = inl (inl e)
-    either (x ∷ xs) b (inr m) = by (either xs b m)
-      where
-        by : IsMember b xs ⊎ (b ≡ a) → IsMember b (x ∷ xs) ⊎ (b ≡ a)
-        by (inl k) = inl (inr k)
-        by (inr e) = inr e
-
     places : (b : Site) → IsMember b (sites ++ a ∷ []) → IsWhole h (place_of c q p b.position)
-    places b m = by (either sites b m)
+    places b m = by (pushed_member sites a b m)
       where
-        by : IsMember b sites ⊎ (b ≡ a) → IsWhole h (place_of c q p b.position)
-        by (inl k) = whole_divided g h (place_of c q p b.position) (d.places b k) w.of_left
-        by (inr e) = subst (λ (x : Site). IsWhole h (place_of c q p x.position)) (sym e) w.of_right
+        by : (b ≡ a) ⊎ IsMember b sites → IsWhole h (place_of c q p b.position)
+        by (inr k) = whole_divided g h (place_of c q p b.position) (d.places b k) w.of_left
+        by (inl e) = subst (λ (x : Site). IsWhole h (place_of c q p x.position)) (sym e) w.of_right

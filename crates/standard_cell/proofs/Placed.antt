@@ -1,11 +1,11 @@
 -- A position of the infinite crystal and its place within one cell of the new basis.
 use Rattle.std.proofs.Common.{◌≡◌, ℕ, ℤ, pos, negsuc, ◌*ℤ◌, ◌<ℤ◌, ◌∷◌, ◌++◌, refl, sym, ◌∙◌, ap, subst}
+use Rattle.lists.specs.Increasing.{IsMember}
 use Rattle.matrix3.specs.Matrices as formulas
 use Rattle.ring.specs.Ring.{var, con, quoted}
 use Rattle.ring.proofs.IntOrder.{mul_pos}
 use Rattle.matrix3.specs.Matrices.{entries, coordinates, matrix_of_variables, vector_of_variables}
 use Rattle.crystal_spec.specs.Matrices.{Triple, Matrix, image, determinant, multiple, sum_of}
-use Rattle.crystal_spec.specs.Increasing.{IsMember}
 use Rattle.crystal_spec.specs.Crystals.{Site, Structure}
 use Rattle.crystal_spec.proofs.Identities.{by_triples}
 use Rattle.crystal_spec.specs.Cells.{DiffersByCells}

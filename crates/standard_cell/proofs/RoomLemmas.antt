@@ -1,21 +1,21 @@
 -- The standard cell by its units and its blocks, and that it is within the limits of a cell exactly where there is room for it.
-use Rattle.std.proofs.Common.{◌≡◌, ℕ, zero, suc, ◌*◌, ◌^◌, ◌<◌, ◌≤◌, ℤ, pos, negsuc, ◌*ℤ◌, ◌<ℤ◌, ◌≤ℤ◌, List, [], ◌∷◌, ◌++◌, length, inl, inr, refl, sym, ap, subst, ◌∙◌, arith}
+use Rattle.std.proofs.Common.{◌≡◌, ℕ, zero, suc, ◌*◌, ◌^◌, ◌<◌, ◌≤◌, ℤ, pos, negsuc, ◌*ℤ◌, ◌<ℤ◌, ◌≤ℤ◌, List, [], ◌∷◌, ◌++◌, length, inl, inr, refl, sym, ap, subst, ◌∙◌, arith, append-nil}
 use Rattle.std.specs.Prelude.{unsigned_abs, slice_get, Some}
 use Rattle.std.proofs.lemmas.Int.{ints}
 use Rattle.ring.proofs.IntOrder.{mul_pos}
+use Rattle.lists.specs.Increasing.{IsMember}
 use Rattle.crystal_spec.specs.declared.MomentKind.{MomentKind}
 use Rattle.crystal_spec.specs.Matrices.{Matrix, image, determinant, adjugate}
 use Rattle.crystal_spec.specs.Moments.{IsOfKind, turn_matrix}
-use Rattle.crystal_spec.specs.Increasing.{IsMember}
 use Rattle.crystal_spec.specs.Crystals.{Site, Structure, IsPositive}
 use Rattle.crystal_spec.specs.Cells.{IsCell}
 use Rattle.crystal_spec.proofs.Moments.{turn-of_kind}
 use Rattle.crystal.specs.declared.limits.TheConstants.{MOST_ATOMS}
 use Rattle.crystal.specs.Views.{metric_of}
-use Rattle.crystal.specs.Bounds.{EntriesAtMost, CoordinatesAtMost}
+use Rattle.matrix3.specs.Bounds.{EntriesAtMost, CoordinatesAtMost}
 use Rattle.crystal.specs.Cells.{IsSiteOf, AreSitesOf, IsCellWithinLimits}
 use Rattle.crystal.proofs.CellLemmas.{site_member, is_cell}
-use Rattle.basis_spec.specs.Positions.{origin}
+use Rattle.positions.specs.Positions.{origin}
 use Rattle.basis_spec.proofs.Positive.{pos_of_mul, positive_metric_in}
 use Rattle.match_spec.specs.Points.{Point, IsPoint}
 use Rattle.standard_cell.specs.declared.limits.Units.{Units}
@@ -36,11 +36,7 @@ natural (negsuc n) h = absurd h.lt
 -- ---- one more block
 
 pub blocks_more : (c : Structure) (q : Matrix) (p : Point) (n : ℕ) (atoms : List Site) (a : Site) (sites block : List Site) → AreBlocks c q p n atoms sites → IsBlock c q p n a block → AreBlocks c q p n (atoms ++ a ∷ []) (sites ++ block)
-blocks_more c q p n [] a sites block is one = (block, ([], (ap (λ (l : List Site). l ++ block) is ∙ sym (append_nil block), (one, refl))))
-  where
-    append_nil : (xs : List Site) → xs ++ [] ≡ xs
-    append_nil [] = refl
-    append_nil (x ∷ xs) = ap (λ (l : List Site). x ∷ l) (append_nil xs)
+blocks_more c q p n [] a sites block is one = (block, ([], (ap (λ (l : List Site). l ++ block) is ∙ sym (append-nil block), (one, refl))))
 blocks_more c q p n (b ∷ atoms) a sites block (first, (rest, (is, (here, more)))) one =
     (first, (rest ++ block, (ap (λ (l : List Site). l ++ block) is ∙ assoc first rest block, (here, blocks_more c q p n atoms a rest block more one))))
   where

@@ -6,6 +6,7 @@
 -- with a P of determinant 1, and S takes just the group's translations to whole ones. So (W, w) is of the group.
 use Rattle.std.proofs.Common.{◌≡◌, ℕ, ℤ, pos, ◌*ℤ◌, ◌<ℤ◌, ◌≤ℤ◌, List, ◌∷◌, ◌++◌, refl, sym, ◌∙◌, ap, subst, arith}
 use Rattle.std.proofs.lemmas.Int.{ints}
+use Rattle.lists.specs.Increasing.{IsMember}
 use Rattle.matrix3.specs.Matrices as formulas
 use Rattle.ring.specs.Ring.{var, con, quoted, ◌:*◌}
 use Rattle.ring.proofs.IntOrder.{mul_pos}
@@ -13,19 +14,18 @@ use Rattle.matrix3.specs.Matrices.{entries, coordinates, matrix_of_variables, ve
 use Rattle.crystal_spec.specs.declared.Sign.{Sign}
 use Rattle.crystal_spec.specs.declared.Sign.TheVariants.{Same, Reversed}
 use Rattle.crystal_spec.specs.Matrices.{Triple, Matrix, product, image, determinant, adjugate, identity, multiple, sum_of, difference}
-use Rattle.crystal_spec.specs.Increasing.{IsMember}
 use Rattle.crystal_spec.specs.Crystals.{Structure, position_after}
 use Rattle.crystal_spec.specs.Operations.{Operation, IsWithinCell, sign_factor, ListsAll}
 use Rattle.crystal_spec.proofs.Identities.{by_triples, by_matrices}
 use Rattle.crystal_spec.proofs.Isometries.{determinant-product, image-adjugate, multiple-one}
-use Rattle.basis_spec.specs.Positions.{residue}
+use Rattle.positions.specs.Positions.{modulo}
 use Rattle.crystal_spec.specs.Cells.{IsCell}
 use Rattle.basis_spec.specs.Bases.{IsBack}
 use Rattle.basis_spec.specs.Translations.{IsPrimitive, pure_translation}
 use Rattle.basis_spec.specs.StepBases.{InLattice}
 use Rattle.basis_spec.proofs.MatrixLaws.{image-product, image-multiple, image-identity, image-matrix_multiple, multiple-sum_of}
 use Rattle.basis_spec.proofs.Cancelling.{multiple_cancel, image_cancel}
-use Rattle.basis_spec.proofs.Residues.{residue_away}
+use Rattle.positions.proofs.Residues.{modulo_away}
 use Rattle.basis_spec.proofs.PureTranslations.{translations_same}
 use Rattle.basis_spec.proofs.StepLists.{list_lattice}
 use Rattle.basis_spec.proofs.StepIndex.{step_back}
@@ -132,13 +132,13 @@ after_pure : (h : List Operation) (n : ℕ) (o b : Operation) (t : Triple) → I
     (r : Operation) × (IsMember r h × IsSameOperation n o r)
 unfolding InLattice
 after_pure h n o b t g of_h pure some within matrix sign e =
-    let c = g.composed b (pure_translation (residue 12 t)) of_h pure in
+    let c = g.composed b (pure_translation (modulo 12 t)) of_h pure in
     let r = c.0 in
     let is = c.1.1 in
-    let rest = residue_away 12 t (some_cells 12 h g) in
+    let rest = modulo_away 12 t (some_cells 12 h g) in
     let same : sum_of b.translation t ≡ r.translation =
     translations_same 12 (sum_of b.translation t) r.translation (within_cell n o.translation (sum_of b.translation t) some e within) is.translation.within
-    (record { cells = sum_of is.translation.cells rest.cells; is = ap (sum_of b.translation) rest.is ∙ regroup b.translation (residue 12 t) rest.cells ∙ ap (λ v. sum_of v (multiple (pos 12) rest.cells)) is.translation.same ∙ two r.translation is.translation.cells rest.cells }) in
+    (record { cells = sum_of is.translation.cells rest.cells; is = ap (sum_of b.translation) rest.is ∙ regroup b.translation (modulo 12 t) rest.cells ∙ ap (λ v. sum_of v (multiple (pos 12) rest.cells)) is.translation.same ∙ two r.translation is.translation.cells rest.cells }) in
     (r, (c.1.0, record { matrix = matrix ∙ sym (is.matrix ∙ identity-product b.matrix); translation = e ∙ ap (multiple (pos n)) same; sign = sign ∙ same_sign r.sign b.sign is.sign }))
   where
     regroup : (b t z : Triple) → sum_of b (sum_of t (multiple (pos 12) z)) ≡ sum_of (position_after identity t b) (multiple (pos 12) z)
@@ -183,12 +183,12 @@ module _ (c s : Structure) (q : Matrix) (p : Point) (st : IsStandard c q p s) (c
       let k = (all.exact o).0 of_s in
       let v = found c s q p st above is_p cell o k.keeps primitive ms lists in
       let t = found_part c s q p st above is_p cell o k.keeps primitive ms lists in
-      let f = carries.onto (record { matrix = v; translation = residue c.n t; sign = o.sign }) (of_list c s q p st above is_p cell o k.keeps primitive ms lists) in
+      let f = carries.onto (record { matrix = v; translation = modulo c.n t; sign = o.sign }) (of_list c s q p st above is_p cell o k.keeps primitive ms lists) in
       let b = f.0 in
       let im = f.1.1 in
-      let away = residue_away c.n t cell.some_cells in
-      let differs = shifts_differ q v p.numerators p.denominator (pos c.n) (pos s.n) o.translation t b.translation (residue c.n t) away.cells im.translation.whole.quotient is_p.positive cell.some_cells
-      (shift c s q p st above is_p cell o k.keeps primitive ms lists) (shift_of q v p (pos c.n) (pos 12) b.translation (residue c.n t) is_p.positive im.translation) away.is in
+      let away = modulo_away c.n t cell.some_cells in
+      let differs = shifts_differ q v p.numerators p.denominator (pos c.n) (pos s.n) o.translation t b.translation (modulo c.n t) away.cells im.translation.whole.quotient is_p.positive cell.some_cells
+      (shift c s q p st above is_p cell o k.keeps primitive ms lists) (shift_of q v p (pos c.n) (pos 12) b.translation (modulo c.n t) is_p.positive im.translation) away.is in
       let pure = pure_of h q class step (pos s.n) (difference (multiple (pos 12) o.translation) (multiple (pos s.n) b.translation)) (difference away.cells im.translation.whole.quotient) g is_step q_is one differs in
       after_pure h s.n o b pure.translation g f.1.0 pure.of_group st.n.positive k.translation
       (cancel_left q o.matrix b.matrix (not_zero (determinant q) above) (sym (turned c s q p st above is_p cell o k.keeps primitive ms lists) ∙ im.matrix))

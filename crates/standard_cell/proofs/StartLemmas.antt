@@ -9,9 +9,9 @@ use Rattle.crystal_spec.specs.Matrices.{Triple, Matrix, image, adjugate}
 use Rattle.crystal_spec.specs.Moments.{turn_matrix}
 use Rattle.crystal_spec.specs.Crystals.{Site}
 use Rattle.crystal_spec.proofs.Entrywise.{triple_same}
-use Rattle.crystal.specs.Bounds.{EntriesAtMost, CoordinatesAtMost}
+use Rattle.matrix3.specs.Bounds.{EntriesAtMost, CoordinatesAtMost}
 use Rattle.crystal.proofs.Ranges.{turn_entries}
-use Rattle.basis_spec.proofs.Residues.{euclid, remainder_within}
+use Rattle.positions.proofs.Residues.{euclid, remainder_within}
 use Rattle.standard_cell.specs.declared.frame.Frame.{Frame}
 use Rattle.standard_cell.specs.Frames.{IsFrame, step_of, goal_of, IsStart}
 use Rattle.standard_cell.proofs.CopyLemmas.{step_above}

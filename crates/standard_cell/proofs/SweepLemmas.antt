@@ -1,23 +1,24 @@
 -- Going through triples in order: nothing, one triple, and one region after another.
-use Rattle.std.proofs.Common.{◌≡◌, ℕ, ◌+◌, ℤ, pos, ◌<ℤ◌, ◌≤ℤ◌, ◌⊎◌, inl, inr, List, [], ◌∷◌, ◌++◌, map, refl, sym, ap, subst, ◌∙◌, append_assoc, arith}
+use Rattle.std.proofs.Common.{◌≡◌, ℕ, ◌+◌, ℤ, pos, ◌<ℤ◌, ◌≤ℤ◌, ◌⊎◌, inl, inr, List, [], ◌∷◌, ◌++◌, map, refl, sym, ap, subst, ◌∙◌, append_assoc, arith, append-nil}
 use Rattle.std.proofs.lemmas.Int.{ints}
 use Rattle.std.specs.declared.cmp.Ordering.{Ordering}
 use Rattle.std.specs.declared.cmp.Ordering.TheVariants.{Less, Equal, Greater}
 use Rattle.std.specs.Ordering.{int_cmp, ordering_then}
 use Rattle.std.specs.Cmp.Lexicographic.{slice_cmp}
 use Rattle.std.proofs.lemmas.Cmp.{int_ranked, int_cmp_total, tied_itself}
+use Rattle.lists.specs.Increasing.{IsBelowAll, IsIncreasing, IsMember}
+use Rattle.lists.proofs.Members.{member_left, member_right, member_either}
 use Rattle.matrix3.specs.Matrices.{coordinates}
 use Rattle.crystal_spec.specs.Matrices.{Triple}
-use Rattle.crystal_spec.specs.Increasing.{IsBelowAll, IsIncreasing, IsMember}
 use Rattle.crystal_spec.specs.Crystals.{Site}
 use Rattle.crystal_spec.proofs.Entrywise.{triple_same}
 use Rattle.crystal.specs.declared.atom.Atom.{Atom}
 use Rattle.crystal.specs.Views.{site_of}
-use Rattle.basis_spec.specs.Positions.{triple}
+use Rattle.positions.specs.Positions.{triple}
 use Rattle.match_spec.specs.FirstMap.{IsBefore}
 use Rattle.standard_cell.specs.StandardCells.{compare_places}
 use Rattle.standard_cell.specs.Sweeps.{IsSweep, IsAdded, IsUnder, IsOnLine, IsOnPlane, IsInSpace}
-use Rattle.standard_cell.proofs.Blocks.{member_left, member_right, member_either}
+use Rattle.std.proofs.lemmas.List.{map_push}
 
 -- ---- the order of lists of integers
 
@@ -86,22 +87,14 @@ both_swept P R S U xs ys order left right either h k = record {
 
 -- ---- added atoms
 
-append_nil : {X : Type 0} (xs : List X) → xs ++ [] ≡ xs
-append_nil [] = refl
-append_nil (x ∷ xs) = ap (λ l. x ∷ l) (append_nil xs)
-
 pub none_added : (P : Triple → Site → Type 0) (R : Triple → Type 0) (before : List Atom) → ((t : Triple) → R t → ⊥) → IsAdded before before P R
-none_added P R before none = record { block = []; is = sym (append_nil (map site_of before)); sweep = none_swept P R none }
+none_added P R before none = record { block = []; is = sym (append-nil (map site_of before)); sweep = none_swept P R none }
 
 pub missed_added : (P : Triple → Site → Type 0) (t : Triple) (before : List Atom) → ((d : Site) → P t d → ⊥) → IsAdded before before P (λ s. s ≡ t)
-missed_added P t before none = record { block = []; is = sym (append_nil (map site_of before)); sweep = missed_swept P t none }
-
-mapped_one : (xs : List Atom) (x : Atom) → map site_of (xs ++ x ∷ []) ≡ map site_of xs ++ site_of x ∷ []
-mapped_one [] x = refl
-mapped_one (y ∷ xs) x = ap (λ (l : List Site). site_of y ∷ l) (mapped_one xs x)
+missed_added P t before none = record { block = []; is = sym (append-nil (map site_of before)); sweep = missed_swept P t none }
 
 pub one_added : (P : Triple → Site → Type 0) (t : Triple) (before after : List Atom) (b : Atom) → after ≡ before ++ b ∷ [] → P t (site_of b) → ((d : Site) → P t d → d ≡ site_of b) → IsAdded before after P (λ s. s ≡ t)
-one_added P t before after b is p only = record { block = site_of b ∷ []; is = ap (map site_of) is ∙ mapped_one before b; sweep = one_swept P t (site_of b) p only }
+one_added P t before after b is p only = record { block = site_of b ∷ []; is = ap (map site_of) is ∙ map_push site_of before b; sweep = one_swept P t (site_of b) p only }
 
 pub both_added : (P : Triple → Site → Type 0) (R S U : Triple → Type 0) (before between after : List Atom) → ((t s : Triple) (b d : Site) → R t → S s → P t b → P s d → compare_places b d ≡ Less) → ((t : Triple) → R t → U t) → ((t : Triple) → S t → U t) → ((t : Triple) → U t → R t ⊎ S t) →
     IsAdded before between P R → IsAdded between after P S → IsAdded before after P U

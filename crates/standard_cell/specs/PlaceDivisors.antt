@@ -7,8 +7,8 @@
 --   IsMultiple k z                z is a multiple of k
 --   IsPlaceDivisor c q p sites g  g divides e, all translations between places, and the places of these atoms, and is the greatest
 use Rattle.std.specs.Prelude.{◌≡◌, ℤ, pos, ◌*ℤ◌, ◌<ℤ◌, List}
+use Rattle.lists.specs.Increasing.{IsMember}
 use Rattle.crystal_spec.specs.Matrices.{Triple, Matrix, image, determinant, adjugate, multiple, difference}
-use Rattle.crystal_spec.specs.Increasing.{IsMember}
 use Rattle.crystal_spec.specs.Crystals.{Site, Structure}
 use Rattle.match_spec.specs.Points.{Point, IsWhole}
 

@@ -5,8 +5,8 @@
 --   IsCommonDenominator c q p n   the places of all atoms of c are in units of 1/n
 --   IsLeastDenominator c q p n    n is the least such number
 use Rattle.std.specs.Prelude.{ℕ, pos, ◌≤◌, ◌<ℤ◌}
+use Rattle.lists.specs.Increasing.{IsMember}
 use Rattle.crystal_spec.specs.Matrices.{Triple, Matrix, multiple}
-use Rattle.crystal_spec.specs.Increasing.{IsMember}
 use Rattle.crystal_spec.specs.Crystals.{Site, Structure}
 use Rattle.crystal_spec.specs.Cells.{DiffersByCells}
 use Rattle.match_spec.specs.Points.{Point, point, point_sum, turned, IsPoint, IsInCell, IsWhole, Equal}

@@ -2,13 +2,13 @@
 --   AreUnits c q p u   n, k, the metric tensor and the divisor of the places are those of the standard cell
 --   HasRoom c q u      a cell can hold the standard cell
 use Rattle.std.specs.Prelude.{◌≡◌, pos, ◌*◌, ◌^◌, ◌≤◌, ◌*ℤ◌, ◌≤ℤ◌, length, unsigned_abs}
+use Rattle.lists.specs.Increasing.{IsMember}
 use Rattle.crystal_spec.specs.Matrices.{Matrix, image, determinant, adjugate}
 use Rattle.crystal_spec.specs.Moments.{turn_matrix, divisor}
-use Rattle.crystal_spec.specs.Increasing.{IsMember}
 use Rattle.crystal_spec.specs.Crystals.{Site, Structure}
 use Rattle.crystal.specs.declared.limits.TheConstants.{MOST_ATOMS}
 use Rattle.crystal.specs.Views.{metric_of}
-use Rattle.crystal.specs.Bounds.{EntriesAtMost, CoordinatesAtMost}
+use Rattle.matrix3.specs.Bounds.{EntriesAtMost, CoordinatesAtMost}
 use Rattle.basis_spec.specs.Metrics.{metric_in}
 use Rattle.match_spec.specs.Points.{Point}
 use Rattle.standard_cell.specs.PlaceDivisors.{full, IsPlaceDivisor}

@@ -6,8 +6,8 @@
 --   IsOnPlane h a k           the triples (a, y, z) with y below k and z below h
 --   IsInSpace h k             the triples (x, y, z) with x below k and y and z below h
 use Rattle.std.specs.Prelude.{◌≡◌, ℕ, ℤ, pos, ◌≤ℤ◌, ◌<ℤ◌, List, ◌++◌, map}
+use Rattle.lists.specs.Increasing.{IsIncreasing, IsMember}
 use Rattle.crystal_spec.specs.Matrices.{Triple}
-use Rattle.crystal_spec.specs.Increasing.{IsIncreasing, IsMember}
 use Rattle.crystal_spec.specs.Crystals.{Site}
 use Rattle.crystal.specs.declared.atom.Atom.{Atom}
 use Rattle.crystal.specs.Views.{site_of}

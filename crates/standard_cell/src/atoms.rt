@@ -9,7 +9,6 @@ ghost use Rattle.standard_cell.specs.Rooms.{AreUnits};
 
 use crate::copies::{Copies, add_copies};
 use crate::frame::{Frame, goal, source, step};
-use crate::integers::remainders;
 use crate::limits::Units;
 use crystal::{Atom, Cell, turn_matrix};
 use std::alloc::{AllocError, Global};
@@ -27,7 +26,7 @@ fn copies_of(frame: &Frame, cell: &Cell, i: usize, units: &Units) -> Copies
     let atom = cell.atom(i);
     let goal = goal(frame, atom.place);
     Copies {
-        start: remainders(&source(frame, &goal), step(frame)),
+        start: source(frame, &goal).remainders(step(frame)),
         goal,
         species: atom.species,
         moment: turn_matrix(cell.kind(), &frame.back).apply(&atom.moment),

@@ -5,17 +5,18 @@ ghost use Rattle.ring.specs.Size.{AtMost};
 ghost use Rattle.matrix3.specs.Matrices.{EachCoordinate};
 ghost use Rattle.crystal_spec.specs.Matrices.{multiple};
 ghost use Rattle.crystal_spec.specs.Operations.{IsWithinCell};
-ghost use Rattle.crystal.specs.Views.{triple_of};
+ghost use Rattle.positions.specs.Positions.{triple_of};
 ghost use Rattle.match_spec.specs.Points.{point, IsInCell, IsWhole};
 ghost use Rattle.standard_cell.specs.PlaceDivisors.{IsMultiple};
 ghost use Rattle.standard_cell.specs.Frames.{IsFrame, full_of, point_at, Meets, IsCopies, IsCopy};
 ghost use Rattle.standard_cell.specs.Sweeps.{IsAdded, IsOnLine, IsOnPlane, IsInSpace};
 
 use crate::frame::{Frame, full, step};
-use crate::integers::{are_multiples, column, less, natural, plus, times, whole};
+use crate::integers::{are_multiples, natural};
 use crystal::Atom;
 use exact_num::Int;
 use matrix3::Vec3;
+use positions::column;
 use std::alloc::AllocError;
 
 /// What is told of the atoms that one atom has in the new basis.
@@ -38,7 +39,10 @@ fn is_met(frame: &Frame, goal: &Vec3<Int>, place: &Vec3<Int>) -> bool
     requires place { EachCoordinate (AtMost (2 * 10 ^ 21)) place.now }
     ensures { IsTrue result ↔ Meets frame.now goal.now place.now }
 {
-    let rest = less(&frame.turn.apply(place), &times(whole(frame.index), goal));
+    let rest = frame
+        .turn
+        .apply(place)
+        .minus(&goal.multiple(Int::from(frame.index)));
     are_multiples(&rest, full(frame))
 }
 
@@ -87,7 +91,7 @@ fn add_copy(
     requires t { IsInSpace frame.now.index frame.now.index (triple_of t) }
     ensures { OnOk result (IsAdded made.old.items made.new.items (IsCopy frame.now copies.now) (λ s. s ≡ triple_of t)) }
 {
-    let place = plus(&copies.start, &times(step(frame), &column(t)));
+    let place = copies.start.plus(&column(t).multiple(step(frame)));
     if is_met(frame, &copies.goal, &place) {
         made.push(atom_at(copies, &place, full(frame)))?;
     }

@@ -7,7 +7,6 @@ ghost use Rattle.standard_cell.specs.PlaceDivisors.{IsPlaceDivisor};
 ghost use Rattle.standard_cell.specs.Frames.{IsFrame, origin_of};
 
 use crate::frame::{Frame, full, goal, source, step};
-use crate::integers::times;
 use crystal::Cell;
 use exact_num::{Int, gcd};
 use matrix3::Vec3;
@@ -36,25 +35,10 @@ fn translation_divisor(frame: &Frame) -> Int
     ensures { (c : Structure) → frame.now.n ≡ c.n → IsPlaceDivisor c frame.now.turn (origin_of frame.now) [] result }
 {
     let unit = step(frame);
-    let back = frame.back;
-    let x = Vec3 {
-        x: back.a11,
-        y: back.a21,
-        z: back.a31,
-    };
-    let y = Vec3 {
-        x: back.a12,
-        y: back.a22,
-        z: back.a32,
-    };
-    let z = Vec3 {
-        x: back.a13,
-        y: back.a23,
-        z: back.a33,
-    };
-    let first = common_with(full(frame), &times(unit, &x));
-    let second = common_with(first, &times(unit, &y));
-    common_with(second, &times(unit, &z))
+    let (x, y, z) = frame.back.columns();
+    let first = common_with(full(frame), &x.multiple(unit));
+    let second = common_with(first, &y.multiple(unit));
+    common_with(second, &z.multiple(unit))
 }
 
 /// The greatest common divisor of the denominator and the coordinates of all places.

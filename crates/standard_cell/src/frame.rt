@@ -6,13 +6,14 @@ ghost use Rattle.ring.specs.Size.{AtMost};
 ghost use Rattle.matrix3.specs.Matrices.{EachEntry, EachCoordinate};
 ghost use Rattle.crystal_spec.specs.Matrices.{image, determinant, adjugate};
 ghost use Rattle.crystal_spec.specs.Operations.{IsWithinCell};
-ghost use Rattle.crystal.specs.Views.{triple_of};
+ghost use Rattle.positions.specs.Positions.{triple_of};
 ghost use Rattle.standard_cell.specs.Frames.{IsFrame, step_of, full_of, goal_of};
 
-use crate::integers::{column, less, natural, times, whole};
+use crate::integers::natural;
 use crate::origin::Origin;
 use exact_num::Int;
 use matrix3::{Mat3, Vec3};
+use positions::column;
 
 /// A basis Q with its adjugate and determinant, an origin shift, and the n of the primitive cell.
 #[derive(Clone, Copy, Debug)]
@@ -68,7 +69,7 @@ pub(crate) fn step(frame: &Frame) -> Int
     ensures positive { pos 0 <ℤ result }
     ensures size { AtMost (10 ^ 18) result }
 {
-    whole(frame.n) * frame.parts
+    Int::from(frame.n) * frame.parts
 }
 
 /// The denominator h n d of the places.
@@ -78,7 +79,7 @@ pub(crate) fn full(frame: &Frame) -> Int
     ensures positive { pos 0 <ℤ result }
     ensures size { AtMost (2 * 10 ^ 21) result }
 {
-    whole(frame.index) * step(frame)
+    Int::from(frame.index) * step(frame)
 }
 
 /// A position less the origin shift, in units of 1 / (n d).
@@ -88,10 +89,9 @@ pub(crate) fn goal(frame: &Frame, place: [u32; 3]) -> Vec3<Int>
     ensures value { result ≡ goal_of frame.now (triple_of place) }
     ensures size { EachCoordinate (AtMost (2 * 10 ^ 18)) result }
 {
-    less(
-        &times(frame.parts, &column(place)),
-        &times(whole(frame.n), &frame.shift),
-    )
+    column(place)
+        .multiple(frame.parts)
+        .minus(&frame.shift.multiple(Int::from(frame.n)))
 }
 
 /// The place of such a position, in units of 1 / (h n d), but for translations.

@@ -2,13 +2,13 @@
 
 ghost use Rattle.std.specs.Prelude.{◌≡◌, ◌↔◌, ◌*◌, ◌^◌, ◌≤◌, ◌≤ℤ◌, pos, length, IsTrue};
 ghost use Rattle.ring.specs.Size.{AtMost};
+ghost use Rattle.lists.specs.Increasing.{IsMember};
 ghost use Rattle.matrix3.specs.Matrices.{EachEntry};
 ghost use Rattle.crystal_spec.specs.Matrices.{image, transposed};
 ghost use Rattle.crystal_spec.specs.Moments.{divisor};
-ghost use Rattle.crystal_spec.specs.Increasing.{IsMember};
 ghost use Rattle.crystal_spec.specs.Crystals.{Site};
 ghost use Rattle.crystal.specs.Views.{metric_of};
-ghost use Rattle.crystal.specs.Bounds.{EntriesAtMost, CoordinatesAtMost};
+ghost use Rattle.matrix3.specs.Bounds.{EntriesAtMost, CoordinatesAtMost};
 ghost use Rattle.basis_spec.specs.Metrics.{metric_in};
 ghost use Rattle.standard_cell.specs.Frames.{IsFrame, origin_of};
 ghost use Rattle.standard_cell.specs.Rooms.{AreUnits, HasRoom};

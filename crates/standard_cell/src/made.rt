@@ -1,31 +1,16 @@
 // A cell made of names and atoms.
 
 ghost use Rattle.std.specs.Prelude.{◌≡◌, ◌^◌, ◌≤◌, pos, ◌≤ℤ◌, length, map, slice_get, Some, take, unsigned_abs, IfOk, OnOk};
-ghost use Rattle.crystal_spec.specs.Increasing.{IsDistinct};
+ghost use Rattle.lists.specs.Increasing.{IsDistinct};
 ghost use Rattle.crystal_spec.specs.Crystals.{Site, IsPositive};
 ghost use Rattle.crystal.specs.Views.{metric_of, site_of};
-ghost use Rattle.crystal.specs.Bounds.{EntriesAtMost};
+ghost use Rattle.matrix3.specs.Bounds.{EntriesAtMost};
 ghost use Rattle.crystal.specs.Cells.{AreSitesOf, AreApart};
 
 use crate::integers::natural;
 use crate::limits::Units;
 use crystal::{Atom, Cell, MOST_ATOMS, MOST_NAMES};
 use std::alloc::{AllocError, Global};
-
-/// Adds the names of a cell, of which the first is there.
-///
-/// Refuses for want of memory alone.
-fn add_names(made: &mut Cell, cell: &Cell) -> Result<(), AllocError>
-    requires first { made.old.names ≡ take 1 cell.now.names }
-    requires differ { IsDistinct cell.now.names }
-    requires few { length cell.now.names ≤ MOST_NAMES }
-    ensures { OnOk result (made.new ≡ record made.old { names = cell.now.names }) }
-{
-    for species in 1..cell.names() {
-        made.add_name(cell.name(species as u16).copied())?;
-    }
-    Ok(())
-}
 
 /// Adds atoms, of which the first is there.
 ///
@@ -78,7 +63,7 @@ pub(crate) fn cell_of(
         name,
         atoms[0],
     )?;
-    add_names(&mut made, cell)?;
+    made.add_names_of(cell)?;
     add_atoms(&mut made, atoms)?;
     Ok(made)
 }

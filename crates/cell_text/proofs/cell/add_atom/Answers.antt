@@ -1,7 +1,7 @@
 use Rattle.std.proofs.Common.{◌≡◌, ℕ, List, sym, ap, subst, ◌∙◌}
 use Rattle.crystal_spec.specs.Crystals.{Structure}
 use Rattle.crystal_spec.specs.Operations.{IsWithinCell}
-use Rattle.crystal.specs.Views.{triple_of}
+use Rattle.positions.specs.Positions.{triple_of}
 use Rattle.cell_text.specs.CellFile.{number_of, with_name}
 use Rattle.cell_text.specs.Views.{atom_view}
 use Rattle.cell_text.proofs.Fillings.{is_small, is_named, kind_added}

@@ -1,7 +1,10 @@
 use Rattle.std.proofs.Common.{◌≡◌, ◌∙◌, true, subst, sym}
-use Rattle.crystal.specs.Views.{site_of, triple_of}
+use Rattle.crystal.specs.Views.{site_of}
+use Rattle.positions.specs.Positions.{triple_of}
+use Rattle.lists.proofs.Walks.{drop_at}
+use Rattle.lists.proofs.Members.{member_at}
 use Rattle.crystal.specs.Carrying.{HaveImages}
-use Rattle.crystal.proofs.ImageLemmas.{drop_at, member_at, image_member}
+use Rattle.crystal.proofs.ImageLemmas.{image_member}
 use Rattle.crystal.proofs.carrying.have_images.Goals as goal
 
 -- the map fails as the last one did

@@ -1,5 +1,5 @@
 use Rattle.std.proofs.Common.{drop}
-use Rattle.crystal.specs.Views.{triple_of}
+use Rattle.positions.specs.Positions.{triple_of}
 use Rattle.crystal.specs.Carrying.{HaveImages}
 use Rattle.crystal.proofs.carrying.have_images.Given as goal
 

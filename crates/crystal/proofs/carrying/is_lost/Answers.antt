@@ -1,6 +1,8 @@
 use Rattle.std.proofs.Common.{◌≡◌, Bool, true, false, not}
-use Rattle.crystal.specs.Views.{site_of, triple_of}
-use Rattle.crystal.proofs.ImageLemmas.{member_at, image_member}
+use Rattle.crystal.specs.Views.{site_of}
+use Rattle.positions.specs.Positions.{triple_of}
+use Rattle.crystal.proofs.ImageLemmas.{image_member}
+use Rattle.lists.proofs.Members.{member_at}
 use Rattle.crystal.proofs.carrying.is_lost.Goals as goal
 
 clash : (b : Bool) → not b ≡ true → b ≡ true → ⊥

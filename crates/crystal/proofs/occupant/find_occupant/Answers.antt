@@ -1,6 +1,7 @@
 use Rattle.std.proofs.Common.{◌≡◌, sym, subst, map, length, arith}
 use Rattle.std.specs.Prelude.{IfNone}
-use Rattle.crystal.specs.Views.{site_of, triple_of}
+use Rattle.crystal.specs.Views.{site_of}
+use Rattle.positions.specs.Positions.{triple_of}
 use Rattle.crystal.specs.Occupants.{NoneAt}
 use Rattle.crystal.proofs.Covering.{none_listed}
 use Rattle.crystal.proofs.Positions.{slice_get-map}

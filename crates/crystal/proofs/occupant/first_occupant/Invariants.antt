@@ -1,5 +1,6 @@
 use Rattle.std.proofs.Common.{drop, map}
-use Rattle.crystal.specs.Views.{triple_of, site_of}
+use Rattle.crystal.specs.Views.{site_of}
+use Rattle.positions.specs.Positions.{triple_of}
 use Rattle.crystal.specs.Occupants.{NoneAt}
 use Rattle.crystal.proofs.occupant.first_occupant.Given as goal
 

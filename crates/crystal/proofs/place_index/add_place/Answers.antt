@@ -1,5 +1,5 @@
 use Rattle.std.proofs.Common.{subst, sym}
-use Rattle.crystal_spec.specs.Increasing.{IsMember}
+use Rattle.lists.specs.Increasing.{IsMember}
 use Rattle.crystal.proofs.Covering.{inserted_member, inserted_stays}
 use Rattle.crystal.proofs.place_index.add_place.Goals as goal
 

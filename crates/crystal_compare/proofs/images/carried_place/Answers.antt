@@ -1,13 +1,13 @@
-use Rattle.std.proofs.Common.{◌^◌, ap, subst, sym, ◌∙◌, lit≤}
+use Rattle.std.proofs.Common.{◌^◌, ap, subst, sym, ◌∙◌}
 use Rattle.crystal_spec.specs.Matrices.{image}
-use Rattle.crystal.specs.Views.{triple_of}
-use Rattle.crystal.specs.Bounds.{CoordinatesAtMost}
-use Rattle.crystal.proofs.Ranges.{image_fits}
+use Rattle.positions.specs.Positions.{triple_of}
+use Rattle.matrix3.specs.Bounds.{CoordinatesAtMost}
+use Rattle.matrix3.proofs.FitsBySize.{image_fits}
 use Rattle.crystal_compare.proofs.Imaging.{place_found, place_image}
 use Rattle.crystal_compare.proofs.images.carried_place.Goals as goal
 
 pub apply-image-requires-clause-fits : goal.apply-image-requires-clause-fits
-apply-image-requires-clause-fits c = image_fits 1 (2 ^ 32) _ _ (lit≤ tt) c.requires.map c.column.ensures.size
+apply-image-requires-clause-fits c = image_fits _ _ c.requires.map c.column.ensures.size tt
 
 pub carried_coordinate-requires-clause-x : goal.carried_coordinate-requires-clause-x
 carried_coordinate-requires-clause-x c = (subst (CoordinatesAtMost (10 ^ 14)) (sym c.apply-image.ensures.value) (place_image c.args.w.now c.column.result c.requires.map c.column.ensures.size)).x

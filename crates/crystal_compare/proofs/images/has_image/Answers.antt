@@ -1,7 +1,8 @@
 use Rattle.std.proofs.Common.{ℕ, subst, ap, ◌∙◌}
 use Rattle.crystal_spec.specs.Crystals.{Structure}
 use Rattle.crystal.specs.Cells.{IsCellWithinLimits}
-use Rattle.crystal.specs.Views.{site_of, triple_of}
+use Rattle.crystal.specs.Views.{site_of}
+use Rattle.positions.specs.Positions.{triple_of}
 use Rattle.crystal_compare.specs.Search.{IsCarriedPlace, IsBetweenPlaces}
 use Rattle.crystal_compare.proofs.Imaging.{image_exactly, no_image}
 use Rattle.crystal_compare.proofs.images.has_image.Goals as goal

@@ -2,7 +2,8 @@ use Rattle.std.proofs.Common.{◌≡◌, subst, sym, ◌∙◌, true, false}
 use Rattle.std.specs.Prelude.{IsTrue, ◌↔◌, slice_get, Some}
 use Rattle.crystal_spec.specs.Crystals.{Structure}
 use Rattle.crystal.specs.Cells.{IsCellWithinLimits}
-use Rattle.crystal.specs.Views.{site_of, triple_of}
+use Rattle.crystal.specs.Views.{site_of}
+use Rattle.positions.specs.Positions.{triple_of}
 use Rattle.crystal_compare.specs.Maps.{HaveOneName}
 use Rattle.crystal_compare.specs.Search.{HaveOneMoment}
 use Rattle.crystal_compare.proofs.Imaging.{image_at, no_image_at}

@@ -7,7 +7,7 @@ use Rattle.crystal_spec.specs.Crystals.{Structure}
 use Rattle.crystal_spec.specs.Operations.{sign_factor}
 use Rattle.crystal.specs.Cells.{IsCellWithinLimits}
 use Rattle.crystal.specs.Views.{site_of}
-use Rattle.crystal.specs.Bounds.{EntriesAtMost}
+use Rattle.matrix3.specs.Bounds.{EntriesAtMost}
 use Rattle.crystal.proofs.CellLemmas.{site_member}
 use Rattle.crystal_compare.specs.Search.{MapsOnto, HasSiteImage, HaveSiteImages}
 use Rattle.crystal_compare.proofs.Imaging.{moment_matrix_small}

@@ -1,11 +1,11 @@
 use Rattle.std.proofs.Common.{◌≡◌, ℤ, pos, ◌≤ℤ◌, ◌<ℤ◌, List, [], ◌∷◌, ◌++◌, take, map, subst, sym, ap, ◌∙◌, rules}
 use Rattle.std.proofs.lemmas.List.{map_push}
-use Rattle.prim_cell.proofs.Making.{taken_more}
+use Rattle.lists.proofs.Walks.{take_at}
+use Rattle.lists.proofs.Members.{member_at}
 use Rattle.crystal_compare.specs.Lists.{map_of}
 use Rattle.crystal_compare.specs.Maps.{AffineMap}
 use Rattle.crystal_compare.specs.Steps.{operation_of}
 use Rattle.crystal_compare.specs.Search.{steps, shifted}
-use Rattle.crystal_compare.proofs.Names.{member_at}
 use Rattle.crystal_compare.proofs.list.all_with_fractions.Goals as goal
 
 pub with_fractions-requires-clause-x : goal.with_fractions-requires-clause-x
@@ -32,4 +32,4 @@ loop-i-preserved c =
     let pushed : c.push.new.self.items ≡ c.loop-i.maps.items ++ c.with_fractions.result ∷ [] = search rules in
     let last : map_of c.with_fractions.result ≡ shifted n o = c.with_fractions.ensures n c.step_count-n.ensures.value in
     ap (map map_of) pushed ∙ map_push map_of c.loop-i.maps.items c.with_fractions.result ∙ ap (λ (l : List AffineMap). l ++ map_of c.with_fractions.result ∷ []) c.loop-i.invariant
-    ∙ ap (λ (a : AffineMap). map (shifted n) (take i os) ++ a ∷ []) last ∙ sym (map_push (shifted n) (take i os) o) ∙ ap (map (shifted n)) (taken_more os i o c.at.ensures)
+    ∙ ap (λ (a : AffineMap). map (shifted n) (take i os) ++ a ∷ []) last ∙ sym (map_push (shifted n) (take i os) o) ∙ ap (map (shifted n)) (take_at os i o c.at.ensures)

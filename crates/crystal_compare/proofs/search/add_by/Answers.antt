@@ -1,14 +1,16 @@
 use Rattle.std.proofs.Common.{◌≡◌, ℕ, ◌⊎◌, List, length, subst, sym, ap, ◌∙◌, arith, rules}
 use Rattle.std.specs.Prelude.{◌↔◌, ◌+◌, slice_get, Some, IsTrue}
-use Rattle.crystal_spec.specs.Increasing.{IsMember}
+use Rattle.lists.specs.Increasing.{IsMember}
+use Rattle.lists.specs.Any.{AnyBelow}
+use Rattle.lists.proofs.Any.{more_below, same_below}
 use Rattle.crystal_spec.specs.Crystals.{Structure}
 use Rattle.crystal_spec.specs.Operations.{Operation}
 use Rattle.crystal.specs.Cells.{IsCellWithinLimits}
 use Rattle.crystal.specs.Views.{site_of}
 use Rattle.crystal.proofs.CellLemmas.{site_member}
 use Rattle.crystal_compare.specs.Maps.{HaveOneName}
-use Rattle.crystal_compare.specs.Search.{AnyBelow, IsMapOntoNumber}
-use Rattle.crystal_compare.proofs.Finding.{any_more, any_same, by_atoms, onto_number, not_onto_number}
+use Rattle.crystal_compare.specs.Search.{IsMapOntoNumber}
+use Rattle.crystal_compare.proofs.Finding.{by_atoms, onto_number, not_onto_number}
 use Rattle.crystal_compare.proofs.search.add_by.Goals as goal
 use Rattle.crystal_compare.proofs.search.add_by.Goals.{then-have_one_name+in_ok-add_onto, else-have_one_name}
 
@@ -31,11 +33,11 @@ loop-i-preserved c o =
       | then-have_one_name+in_ok-add_onto v ↦
           let yes : IsTrue c.have_one_name.result = search rules in
           subst (λ (l : List Operation). IsMember o l ↔ (AnyBelow (c.loop-i.i + 1) P ⊎ IsMember o c.args.found.now)) (sym v.found-is)
-          (any_more P c.loop-i.i _ _ _ (c.loop-i.invariant o) (onto_number one s w a b o c.loop-i.i _ _ at (name.0 yes) (v.in_ok-add_onto.ensures.members o)))
+          (more_below P c.loop-i.i _ _ _ (c.loop-i.invariant o) (onto_number one s w a b o c.loop-i.i _ _ at (name.0 yes) (v.in_ok-add_onto.ensures.members o)))
       | else-have_one_name v ↦
           let no : IsTrue c.have_one_name.result → ⊥ = search rules in
           subst (λ (l : List Operation). IsMember o l ↔ (AnyBelow (c.loop-i.i + 1) P ⊎ IsMember o c.args.found.now)) (sym v.found-is)
-          (any_same P c.loop-i.i _ _ (not_onto_number one s w a b o c.loop-i.i at (λ h. no (name.1 h))) (c.loop-i.invariant o))
+          (same_below P c.loop-i.i _ _ (not_onto_number one s w a b o c.loop-i.i at (λ h. no (name.1 h))) (c.loop-i.invariant o))
     ]
 
 pub returns : goal.returns

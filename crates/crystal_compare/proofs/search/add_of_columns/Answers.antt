@@ -1,8 +1,8 @@
 use Rattle.std.proofs.Common.{subst, sym, rules}
 use Rattle.std.specs.Prelude.{◌↔◌, IsTrue}
 use Rattle.crystal_spec.specs.Crystals.{Structure}
-use Rattle.crystal.specs.Bounds.{EntriesAtMost}
-use Rattle.lattice_iso.specs.Columns.{of_columns}
+use Rattle.matrix3.specs.Bounds.{EntriesAtMost}
+use Rattle.matrix3.specs.Matrices.{of_columns}
 use Rattle.crystal_compare.specs.Search.{IsIsometry, IsMapBy}
 use Rattle.crystal_compare.proofs.Finding.{by_matrix, not_by_matrix, not_added, columns_small}
 use Rattle.crystal_compare.proofs.search.add_of_columns.Goals as goal

@@ -1,8 +1,9 @@
 use Rattle.std.specs.Prelude.{◌↔◌, ◌⊎◌, ℕ}
-use Rattle.crystal_spec.specs.Increasing.{IsMember}
+use Rattle.lists.specs.Increasing.{IsMember}
+use Rattle.lists.specs.Any.{AnyBelow}
 use Rattle.crystal_spec.specs.Operations.{Operation}
 use Rattle.lattice_iso.specs.Columns.{candidate}
-use Rattle.crystal_compare.specs.Search.{AnyBelow, IsMapOfTwo}
+use Rattle.crystal_compare.specs.Search.{IsMapOfTwo}
 use Rattle.crystal_compare.proofs.search.add_of_one.Given as goal
 
 -- found so far: those that were there, and exactly those of the second columns so far

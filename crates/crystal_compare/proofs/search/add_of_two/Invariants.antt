@@ -1,8 +1,10 @@
 use Rattle.std.specs.Prelude.{◌↔◌, ◌⊎◌, ℕ}
-use Rattle.crystal_spec.specs.Increasing.{IsMember}
+use Rattle.lists.specs.Increasing.{IsMember}
+use Rattle.lists.specs.Any.{AnyBelow}
 use Rattle.crystal_spec.specs.Operations.{Operation}
-use Rattle.lattice_iso.specs.Columns.{candidate, of_columns}
-use Rattle.crystal_compare.specs.Search.{AnyBelow, IsMapBy}
+use Rattle.lattice_iso.specs.Columns.{candidate}
+use Rattle.matrix3.specs.Matrices.{of_columns}
+use Rattle.crystal_compare.specs.Search.{IsMapBy}
 use Rattle.crystal_compare.proofs.search.add_of_two.Given as goal
 
 -- found so far: those that were there, and exactly those of the third columns so far

@@ -1,10 +1,10 @@
 use Rattle.std.proofs.Common.{ℕ, ◌*◌, ◌⊎◌, pos, subst, ap, ◌∙◌}
 use Rattle.std.specs.Prelude.{◌↔◌}
-use Rattle.crystal_spec.specs.Increasing.{IsMember}
+use Rattle.lists.specs.Increasing.{IsMember}
 use Rattle.crystal_spec.specs.Matrices.{image, multiple, difference}
 use Rattle.crystal_spec.specs.Crystals.{Structure}
 use Rattle.crystal.specs.Views.{site_of}
-use Rattle.crystal.specs.Carrying.{FoldsTo}
+use Rattle.positions.specs.Positions.{IsModulo}
 use Rattle.crystal_compare.specs.Steps.{operation_of}
 use Rattle.crystal_compare.specs.declared.whole_map.WholeMap.{WholeMap}
 use Rattle.crystal_compare.specs.Search.{IsMapAs}
@@ -21,8 +21,8 @@ returns c =
     let t = c.translation_onto-shift.result in
     let n = c.n.ensures in
     let m = c.n-2.ensures ∙ ap (λ (x : Structure). x.n) c.cell-2.ensures in
-    let folds = subst (λ (k : ℕ). FoldsTo (one.n * k) (difference (multiple (pos one.n) b.position) (multiple (pos k) (image w a.position))) t) m
-    (subst (λ (k : ℕ). FoldsTo (k * c.n-2.result) (difference (multiple (pos k) b.position) (multiple (pos c.n-2.result) (image w a.position))) t) n c.translation_onto-shift.ensures) in
+    let folds = subst (λ (k : ℕ). IsModulo (one.n * k) (difference (multiple (pos one.n) b.position) (multiple (pos k) (image w a.position))) t) m
+    (subst (λ (k : ℕ). IsModulo (k * c.n-2.result) (difference (multiple (pos k) b.position) (multiple (pos c.n-2.result) (image w a.position))) t) n c.translation_onto-shift.ensures) in
     record {
       members = λ o. onto_both one s w t a b o _ _ _ folds
           (subst (λ (x : WholeMap). IsMember o c.add_map.new.found ↔ (IsMapAs one s (operation_of x) o ⊎ IsMember o c.args.found.now)) c.map_of-same.ensures (c.in_ok-add_map.ensures.members o))

@@ -1,14 +1,16 @@
 use Rattle.std.proofs.Common.{◌≡◌, ℕ, ◌⊎◌, List, subst, sym, arith, rules}
 use Rattle.std.specs.Prelude.{◌↔◌, ◌+◌, IsTrue}
-use Rattle.crystal_spec.specs.Increasing.{IsMember}
+use Rattle.lists.specs.Increasing.{IsMember}
+use Rattle.lists.specs.Any.{AnyBelow}
+use Rattle.lists.proofs.Members.{member_at}
+use Rattle.lists.proofs.Any.{alone_more, alone_same}
 use Rattle.crystal_spec.specs.Matrices.{Triple}
 use Rattle.crystal_spec.specs.Crystals.{Structure}
 use Rattle.crystal_spec.specs.Operations.{Operation}
 use Rattle.crystal.specs.Views.{site_of}
 use Rattle.lattice_iso.specs.Columns.{candidate}
-use Rattle.crystal_compare.specs.Search.{AnyBelow, AreMetricsOf, IsMapOfOne}
-use Rattle.crystal_compare.proofs.Names.{member_at}
-use Rattle.crystal_compare.proofs.Finding.{alone_more, alone_same, not_first_column}
+use Rattle.crystal_compare.specs.Search.{AreMetricsOf, IsMapOfOne}
+use Rattle.crystal_compare.proofs.Finding.{not_first_column}
 use Rattle.crystal_compare.proofs.search.all_of_kind.Goals as goal
 use Rattle.crystal_compare.proofs.search.all_of_kind.Goals.{then-is_first_column+in_ok-add_of_one, else-is_first_column}
 

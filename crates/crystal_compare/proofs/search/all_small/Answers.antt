@@ -1,6 +1,6 @@
 use Rattle.std.proofs.Common.{◌≡◌, List, length, subst, sym, ap, ◌∙◌, rules}
 use Rattle.std.specs.Prelude.{◌↔◌}
-use Rattle.crystal_spec.specs.Increasing.{IsMember}
+use Rattle.lists.specs.Increasing.{IsMember}
 use Rattle.crystal_spec.specs.Crystals.{Structure}
 use Rattle.crystal_spec.specs.Operations.{Operation}
 use Rattle.crystal.specs.Cells.{IsCellWithinLimits}

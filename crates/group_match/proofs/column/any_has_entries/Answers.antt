@@ -1,7 +1,9 @@
 use Rattle.std.proofs.Common.{◌≡◌, take, map, length, sym, subst, ap, ◌∙◌, arith}
-use Rattle.crystal_spec.specs.Increasing.{IsMember}
+use Rattle.lists.specs.Increasing.{IsMember}
+use Rattle.lists.proofs.Members.{each_pushed}
+use Rattle.lists.proofs.Walks.{take_read, all_taken}
 use Rattle.op_group.specs.Views.{operation_of}
-use Rattle.group_match.proofs.Walks.{one_more, all_taken, each_pushed, mapped_pushed}
+use Rattle.std.proofs.lemmas.List.{map_push}
 use Rattle.group_match.proofs.column.any_has_entries.Goals as goal
 
 pub loop-op-preserved : goal.loop-op-preserved
@@ -9,7 +11,7 @@ loop-op-preserved c o m =
     let ops = c.args.ops.now in
     let i = c.loop-op.op-index in
     let x = c.op-item.result in
-    each_pushed (λ p. p.matrix.a13 ≡ c.args.a13 → p.matrix.a23 ≡ c.args.a23 → p.sign ≡ c.args.sign → ⊥) (map operation_of (take i ops)) (operation_of x) c.loop-op.invariant (λ e f es. (let yes = c.has_entries.ensures.1 (e, (f, es)) in cc (yes, c.if-has_entries.false))) o (subst (IsMember o) (ap (map operation_of) (one_more ops i x c.loop-op-test.true c.op-item.is) ∙ mapped_pushed operation_of (take i ops) x) m)
+    each_pushed (λ p. p.matrix.a13 ≡ c.args.a13 → p.matrix.a23 ≡ c.args.a23 → p.sign ≡ c.args.sign → ⊥) (map operation_of (take i ops)) (operation_of x) c.loop-op.invariant (λ e f es. (let yes = c.has_entries.ensures.1 (e, (f, es)) in cc (yes, c.if-has_entries.false))) o (subst (IsMember o) (ap (map operation_of) (take_read ops i x c.loop-op-test.true c.op-item.is) ∙ map_push operation_of (take i ops) x) m)
 
 pub returns : goal.returns
 returns c o m =

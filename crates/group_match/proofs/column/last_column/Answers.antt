@@ -3,7 +3,7 @@ use Rattle.ring.specs.Size.{AtMost}
 use Rattle.matrix3.specs.Matrices.{EachEntry}
 use Rattle.matrix3.proofs.FitsBySize.{adjugate_fits, adjugate_size}
 use Rattle.crystal_spec.specs.Matrices.{Matrix}
-use Rattle.basis_spec.specs.Positions.{triple}
+use Rattle.positions.specs.Positions.{triple}
 use Rattle.group_match.proofs.column.last_column.Goals as goal
 
 pub adjugate-adjugate-requires-clause-fits : goal.adjugate-adjugate-requires-clause-fits

@@ -17,16 +17,16 @@ times-turned-requires-clause-fits c =
     product_fits c.times.result c.args.steps.now.fore (subst (EachEntry (AtMost m)) (sym c.times.ensures.value) (product_size c.args.steps.now.back c.args.w.now c.requires.steps.small c.requires.small)) c.requires.steps.fore_small tt
 
 pub divided-requires : goal.divided-requires
-divided-requires c = subst (λ z. pos 1 ≤ℤ z) (sym c.whole.ensures) (index_whole c.args.steps.now.index c.requires.steps.at_least)
+divided-requires c = subst (λ z. pos 1 ≤ℤ z) (sym c.from.ensures) (index_whole c.args.steps.now.index c.requires.steps.at_least)
 
 pub returns-clause-found : goal.returns-clause-found
 returns-clause-found c =
     let s = c.args.steps.now in
     let is : c.times-turned.result ≡ product (product s.back c.args.w.now) s.fore = c.times-turned.ensures.value ∙ ap (λ (m : Matrix). product m s.fore) c.times.ensures.value in
-    some_then c.divided.result (λ q e. inner_of s.index s.back s.fore c.args.w.now c.requires.steps q (sym is ∙ (e ∙ ap (λ k. matrix_multiple k q) c.whole.ensures))) c.divided.ensures.found
+    some_then c.divided.result (λ q e. inner_of s.index s.back s.fore c.args.w.now c.requires.steps q (sym is ∙ (e ∙ ap (λ k. matrix_multiple k q) c.from.ensures))) c.divided.ensures.found
 
 pub returns-clause-absent : goal.returns-clause-absent
 returns-clause-absent c =
     let s = c.args.steps.now in
     let is : c.times-turned.result ≡ product (product s.back c.args.w.now) s.fore = c.times-turned.ensures.value ∙ ap (λ (m : Matrix). product m s.fore) c.times.ensures.value in
-    none_then c.divided.result (λ none q small e. none q small (is ∙ (of_inner s.index s.back s.fore c.args.w.now c.requires.steps q e ∙ ap (λ k. matrix_multiple k q) (sym c.whole.ensures)))) c.divided.ensures.absent
+    none_then c.divided.result (λ none q small e. none q small (is ∙ (of_inner s.index s.back s.fore c.args.w.now c.requires.steps q e ∙ ap (λ k. matrix_multiple k q) (sym c.from.ensures)))) c.divided.ensures.absent

@@ -1,20 +1,19 @@
 use Rattle.std.proofs.Common.{◌+◌, take, sym, subst}
+use Rattle.lists.proofs.Members.{mapped_member, member_read}
 use Rattle.op_group.specs.Views.{operation_of}
-use Rattle.match_spec.proofs.Search.{mapped}
 use Rattle.group_match.specs.declared.inner.Source.{Source}
 use Rattle.group_match.specs.Sources.{AreSources}
-use Rattle.group_match.proofs.Walks.{member_of_list}
 use Rattle.group_match.proofs.Loops.{sources_more}
 use Rattle.group_match.proofs.inner.sources.Goals as goal
 
 pub inner-requires-clause-small : goal.inner-requires-clause-small
 inner-requires-clause-small c =
-    c.requires.small (operation_of c.op-item.result) (mapped operation_of c.op-item.result c.args.ops.now (member_of_list c.args.ops.now c.loop-op.op-index c.op-item.result c.loop-op-test.true c.op-item.is))
+    c.requires.small (operation_of c.op-item.result) (mapped_member operation_of c.op-item.result c.args.ops.now (member_read c.args.ops.now c.loop-op.op-index c.op-item.result c.loop-op-test.true c.op-item.is))
 
 pub returns-in-None-clause-absent : goal.returns-in-None-clause-absent
 returns-in-None-clause-absent c = record {
   operation = operation_of c.op-item.result;
-  of_list = mapped operation_of c.op-item.result c.args.ops.now (member_of_list c.args.ops.now c.loop-op.op-index c.op-item.result c.loop-op-test.true c.op-item.is);
+  of_list = mapped_member operation_of c.op-item.result c.args.ops.now (member_read c.args.ops.now c.loop-op.op-index c.op-item.result c.loop-op-test.true c.op-item.is);
   none = c.in-None.ensures.absent;
 }
 

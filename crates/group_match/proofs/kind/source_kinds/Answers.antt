@@ -1,11 +1,11 @@
+use Rattle.lists.proofs.Members.{member_read}
 use Rattle.group_match.specs.Kinds.{kind_of_source}
-use Rattle.group_match.proofs.Walks.{member_of_list}
 use Rattle.group_match.proofs.KindLemmas.{one_kind_more}
 use Rattle.group_match.proofs.kind.source_kinds.Goals as goal
 
 pub kind-requires : goal.kind-requires
 kind-requires c =
-    c.requires.small c.source-item.result (member_of_list c.args.sources.now c.loop-source.source-index c.source-item.result c.loop-source-test.true c.source-item.is)
+    c.requires.small c.source-item.result (member_read c.args.sources.now c.loop-source.source-index c.source-item.result c.loop-source-test.true c.source-item.is)
 
 pub loop-source-preserved : goal.loop-source-preserved
 loop-source-preserved c =

@@ -1,18 +1,20 @@
 use Rattle.std.proofs.Common.{pos, length, ap, ◌∙◌, arith}
+use Rattle.lists.proofs.Members.{member_read}
 use Rattle.crystal_spec.specs.Matrices.{sum_of}
-use Rattle.group_match.proofs.Walks.{member_of_list}
 use Rattle.group_match.proofs.Sums.{counted_none, none_size, counted_on, counted_all, grown_size, fits_size}
 use Rattle.group_match.proofs.origin.balance.Goals as goal
 
 pub loop-pair-init : goal.loop-pair-init
-loop-pair-init c = record { counted = counted_none _ _ c.column-sum.ensures; size = none_size _ c.column-sum.ensures }
+loop-pair-init c = record { counted = counted_none _ _ c.column-sum.ensures.value; size = none_size _ c.column-sum.ensures.value }
 
 pub gap-requires-clause-pair : goal.gap-requires-clause-pair
 gap-requires-clause-pair c =
-    c.requires.pairs c.pair-item.result (member_of_list c.args.pairs.now c.loop-pair.pair-index c.pair-item.result c.loop-pair-test.true c.pair-item.is)
+    c.requires.pairs c.pair-item.result (member_read c.args.pairs.now c.loop-pair.pair-index c.pair-item.result c.loop-pair-test.true c.pair-item.is)
 
 pub plus-sum-requires : goal.plus-sum-requires
-plus-sum-requires c = fits_size c.loop-pair.pair-index (length c.args.pairs.now) c.loop-pair.sum c.gap.result c.loop-pair-test.true c.requires.few c.loop-pair.invariant.size c.gap.ensures.size
+plus-sum-requires c = record {
+  fits = fits_size c.loop-pair.pair-index (length c.args.pairs.now) c.loop-pair.sum c.gap.result c.loop-pair-test.true c.requires.few c.loop-pair.invariant.size c.gap.ensures.size;
+}
 
 pub loop-pair-preserved : goal.loop-pair-preserved
 loop-pair-preserved c =

@@ -1,10 +1,10 @@
 use Rattle.std.proofs.Common.{◌≡◌, pos, map, length, sym, subst, arith}
+use Rattle.lists.proofs.Members.{mapped_member, member_read}
+use Rattle.lists.proofs.Walks.{all_taken}
 use Rattle.match_spec.specs.Searching.{AllWhole}
-use Rattle.match_spec.proofs.Search.{mapped}
 use Rattle.group_match.specs.Matching.{pair_of}
 use Rattle.group_match.specs.Rows.{place}
 use Rattle.group_match.proofs.Outcomes.{of_true, of_false}
-use Rattle.group_match.proofs.Walks.{member_of_list, all_taken}
 use Rattle.group_match.proofs.Wholes.{more_pairs}
 use Rattle.group_match.proofs.origin.rows_of.Goals as goal
 
@@ -13,11 +13,11 @@ loop-pair-init c x y z = ((λ p k m. absurd m), (λ w. c.no_rows-rows.ensures c.
 
 pub add_pair-requires-clause-pair : goal.add_pair-requires-clause-pair
 add_pair-requires-clause-pair c =
-    c.requires.pairs c.pair-item.result (member_of_list c.args.pairs.now c.loop-pair.pair-index c.pair-item.result c.loop-pair-test.true c.pair-item.is)
+    c.requires.pairs c.pair-item.result (member_read c.args.pairs.now c.loop-pair.pair-index c.pair-item.result c.loop-pair-test.true c.pair-item.is)
 
 pub returns-then-not-branch-clause-absent : goal.returns-then-not-branch-clause-absent
 returns-then-not-branch-clause-absent c x y z w =
-    of_false _ c.in_ok-add_pair.ensures.none c.if-not-branch.true x y z (w (pair_of c.pair-item.result) (mapped pair_of c.pair-item.result c.args.pairs.now (member_of_list c.args.pairs.now c.loop-pair.pair-index c.pair-item.result c.loop-pair-test.true c.pair-item.is)))
+    of_false _ c.in_ok-add_pair.ensures.none c.if-not-branch.true x y z (w (pair_of c.pair-item.result) (mapped_member pair_of c.pair-item.result c.args.pairs.now (member_read c.args.pairs.now c.loop-pair.pair-index c.pair-item.result c.loop-pair-test.true c.pair-item.is)))
 
 pub loop-pair-preserved : goal.loop-pair-preserved
 loop-pair-preserved c x y z =

@@ -1,11 +1,11 @@
 use Rattle.std.proofs.Common.{◌≡◌, ◌+◌, take, map, refl, sym, subst, ap, ◌∙◌}
 use Rattle.ring.specs.Size.{AtMost}
+use Rattle.lists.proofs.Members.{member_read}
 use Rattle.matrix3.specs.Matrices.{EachEntry}
 use Rattle.matrix3.proofs.FitsBySize.{adjugate_fits, adjugate_size}
 use Rattle.op_group.specs.Views.{operation_of}
 use Rattle.group_match.specs.declared.pair.Matched.{Matched}
 use Rattle.group_match.specs.Matching.{conjugate, AreCarried}
-use Rattle.group_match.proofs.Walks.{member_of_list}
 use Rattle.group_match.proofs.Loops.{carried_more}
 use Rattle.crystal_spec.specs.Matrices.{product}
 use Rattle.group_match.proofs.pair.paired.Goals as goal
@@ -18,7 +18,7 @@ conjugated-v-requires-clause-adjugate c = subst (EachEntry (AtMost 2)) (sym c.ad
 
 pub conjugated-v-requires-clause-c : goal.conjugated-v-requires-clause-c
 conjugated-v-requires-clause-c c =
-    c.requires.small c.source-item.result (member_of_list c.args.sources.now c.loop-source.source-index c.source-item.result c.loop-source-test.true c.source-item.is)
+    c.requires.small c.source-item.result (member_read c.args.sources.now c.loop-source.source-index c.source-item.result c.loop-source-test.true c.source-item.is)
 
 pub returns-in-None-clause-absent : goal.returns-in-None-clause-absent
 returns-in-None-clause-absent c =
@@ -27,7 +27,7 @@ returns-in-None-clause-absent c =
     let is : c.conjugated-v.result ≡ conjugate p s.inner = c.conjugated-v.ensures ∙ ap (product (product p s.inner)) c.adjugate-adjugate.ensures.value in
     record {
       source = s;
-      of_list = member_of_list c.args.sources.now c.loop-source.source-index s c.loop-source-test.true c.source-item.is;
+      of_list = member_read c.args.sources.now c.loop-source.source-index s c.loop-source-test.true c.source-item.is;
       none = λ o m em. c.in-None.ensures.absent o m (em ∙ sym is);
     }
 

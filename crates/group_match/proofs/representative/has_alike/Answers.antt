@@ -1,10 +1,9 @@
 use Rattle.std.proofs.Common.{◌≡◌, ◌+◌, ◌-◌, ◌<◌, length, take, map, refl, subst, ap, arith}
-use Rattle.crystal_spec.specs.Increasing.{IsMember}
+use Rattle.lists.specs.Increasing.{IsMember}
+use Rattle.lists.proofs.Members.{mapped_member, member_read}
 use Rattle.op_group.specs.Views.{operation_of}
 use Rattle.match_spec.specs.Searching.{class_of}
-use Rattle.match_spec.proofs.Search.{mapped}
 use Rattle.match_spec.proofs.Counts.{same_class}
-use Rattle.group_match.proofs.Walks.{member_of_list}
 use Rattle.group_match.proofs.Loops.{not_last}
 use Rattle.group_match.proofs.representative.has_alike.Goals as goal
 
@@ -15,7 +14,7 @@ returns-then-has_class c =
     let n = length ops - 1 - c.loop-i.i in
     let below : n < length ops = omega (arith, c.loop-i-test.true) in
     let same = c.has_class.ensures.0 c.if-has_class.true in
-    ((λ t. subst (λ k. IsMember k (map class_of (map operation_of ops))) (same_class (class_of (operation_of x)) (class_of (operation_of c.args.op.now)) same.0 same.1) (mapped class_of (operation_of x) (map operation_of ops) (mapped operation_of x ops (member_of_list ops n x below c.index-ops-ops.is)))), (λ m. refl))
+    ((λ t. subst (λ k. IsMember k (map class_of (map operation_of ops))) (same_class (class_of (operation_of x)) (class_of (operation_of c.args.op.now)) same.0 same.1) (mapped_member class_of (operation_of x) (map operation_of ops) (mapped_member operation_of x ops (member_read ops n x below c.index-ops-ops.is)))), (λ m. refl))
 
 pub loop-i-preserved : goal.loop-i-preserved
 loop-i-preserved c h =

@@ -1,5 +1,5 @@
 use Rattle.std.proofs.Common.{◌+◌, take, map, sym, subst, ap, ◌∙◌}
-use Rattle.crystal_spec.specs.Increasing.{IsMember}
+use Rattle.lists.specs.Increasing.{IsMember}
 use Rattle.op_group.specs.Views.{operation_of}
 use Rattle.match_spec.specs.Searching.{class_of, AreRepresentatives}
 use Rattle.group_match.proofs.Loops.{representative_same, representative_more}

@@ -1,5 +1,5 @@
 use Rattle.std.proofs.Common.{pos}
-use Rattle.basis_spec.specs.Positions.{triple}
+use Rattle.positions.specs.Positions.{triple}
 use Rattle.group_match.specs.Rows.{place}
 use Rattle.group_match.proofs.Congruences.{congruence, no_congruence, k_positive, d_nonzero}
 use Rattle.group_match.proofs.row.add_whole.Goals as goal

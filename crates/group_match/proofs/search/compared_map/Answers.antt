@@ -1,5 +1,5 @@
 use Rattle.std.proofs.Common.{pos, List, sym, subst}
-use Rattle.crystal_spec.specs.Increasing.{IsMember}
+use Rattle.lists.specs.Increasing.{IsMember}
 use Rattle.crystal_spec.specs.Operations.{Operation}
 use Rattle.match_spec.specs.FirstMap.{IsNone}
 use Rattle.group_match.specs.Tasks.{IsTask}

@@ -1,9 +1,10 @@
 use Rattle.std.proofs.Common.{◌≤◌, ℕ, List, map, length, sym, subst, ap, ◌∙◌}
-use Rattle.crystal_spec.specs.Increasing.{IsMember}
+use Rattle.lists.specs.Increasing.{IsMember}
+use Rattle.lists.proofs.Increasing.{increasing_distinct}
 use Rattle.crystal_spec.specs.Operations.{compare_of}
 use Rattle.crystal_spec.proofs.Ordered.{compare_total}
 use Rattle.basis_spec.specs.StepBases.{InLattice, IsSteps}
-use Rattle.basis_spec.proofs.TranslationLists.{increasing_distinct}
+use Rattle.std.proofs.lemmas.List.{length-map}
 use Rattle.op_group.specs.Groups.{IsGroupModulo}
 use Rattle.op_group.specs.Views.{operation_of}
 use Rattle.op_group.specs.declared.operation.Op.{Op}
@@ -11,7 +12,6 @@ use Rattle.match_spec.specs.FirstMap.{IsStepMatrix}
 use Rattle.match_spec.specs.Searching.{AreRepresentatives}
 use Rattle.match_spec.proofs.ListedGroups.{closed_of}
 use Rattle.match_spec.proofs.Fewness.{few_operations, few_representatives}
-use Rattle.match_spec.proofs.Search.{length_mapped}
 use Rattle.group_match.specs.Sources.{AreSources, HasNoInner, op_of}
 use Rattle.group_match.specs.Tasks.{AreSourcesOf}
 use Rattle.group_match.proofs.Outcomes.{of_none, of_some, ok_both_then, ok_none_then}
@@ -45,7 +45,7 @@ returns-then-not-are_as_many-clause-absent c =
     record {
       step = s.back;
       is_step = sm;
-      none = not_as_many h n m s.back rs gh c.requires.found_group c.requires.primitive once sm ar (λ e. (let yes = c.are_as_many.ensures.1 (ap length c.deref.ensures.value ∙ (sym (length_mapped operation_of c.in_ok-reps.reps.items) ∙ e)) in cc (yes, c.if-not-are_as_many.true)));
+      none = not_as_many h n m s.back rs gh c.requires.found_group c.requires.primitive once sm ar (λ e. (let yes = c.are_as_many.ensures.1 (ap length c.deref.ensures.value ∙ (sym (length-map c.in_ok-reps.reps.items operation_of) ∙ e)) in cc (yes, c.if-not-are_as_many.true)));
     }
 
 pub sources-requires-clause-steps : goal.sources-requires-clause-steps
@@ -101,7 +101,7 @@ compared_map-requires-clause-task c =
       primitive = c.requires.primitive;
       once = once;
       n_most = c.requires.found_n;
-      few = subst (λ (k : ℕ). k ≤ 96) (length_mapped operation_of c.in_ok-reps.reps.items ∙ (sym (ap length c.deref.ensures.value) ∙ c.are_as_many.ensures.0 c.if-not-are_as_many.false)) (few_representatives h rs c.requires.few ar);
+      few = subst (λ (k : ℕ). k ≤ 96) (length-map c.in_ok-reps.reps.items operation_of ∙ (sym (ap length c.deref.ensures.value) ∙ c.are_as_many.ensures.0 c.if-not-are_as_many.false)) (few_representatives h rs c.requires.few ar);
       small = c.requires.found_entries;
     }
 
@@ -144,7 +144,7 @@ compared_map-requires-clause-many c =
     let ar : AreRepresentatives h rs = c.in_ok-reps.ensures in
     let ops = c.in_ok-reps.reps.items in
     let so : AreSources s.back ops c.in-Some.sources.items = subst (λ (xs : List Op). AreSources s.back xs c.in-Some.sources.items) c.deref-2.ensures.value (of_some (λ v. AreSources s.back c.deref-2.result.now v.items) c.in_ok-sources.field-0 c.in-Some.sources c.in_ok-sources.ensures.found c.in-Some.is) in
-    ap length c.deref-in-Some.ensures.value ∙ (sym (length_mapped op_of c.in-Some.sources.items) ∙ (ap length so.ops_are ∙ (sym (ap length c.deref.ensures.value) ∙ c.are_as_many.ensures.0 c.if-not-are_as_many.false)))
+    ap length c.deref-in-Some.ensures.value ∙ (sym (length-map c.in-Some.sources.items op_of) ∙ (ap length so.ops_are ∙ (sym (ap length c.deref.ensures.value) ∙ c.are_as_many.ensures.0 c.if-not-are_as_many.false)))
 
 pub returns-clause-found : goal.returns-clause-found
 returns-clause-found c =

@@ -1,9 +1,10 @@
 use Rattle.std.proofs.Common.{◌≡◌, ◌-◌, length, sym, arith}
-use Rattle.hall_symbol.proofs.TokenLemmas.{prime-kept, prime-dropped, primed-none, primed-last}
+use Rattle.hall_symbol.proofs.TokenLemmas.{primed-none, primed-last}
+use Rattle.plain_text.proofs.Cutting.{without_last-kept, without_last-dropped}
 use Rattle.hall_symbol.proofs.token_form.split_prime.Goals as goal
 
 pub returns-then-text-len-ne33-clause-letters : goal.returns-then-text-len-ne33-clause-letters
-returns-then-text-len-ne33-clause-letters c = sym (prime-kept c.args.text.now (λ n len e.
+returns-then-text-len-ne33-clause-letters c = sym (without_last-kept 33 c.args.text.now (λ n len e.
     let last : length c.args.text.now - 1 ≡ n = omega arith in
     c.if-text-len-ne33.true (rw last e)))
 
@@ -13,7 +14,7 @@ returns-then-text-len-ne33-clause-primed c = sym (primed-none c.args.text.now (�
     c.if-text-len-ne33.true (rw last e)))
 
 pub returns-clause-letters : goal.returns-clause-letters
-returns-clause-letters c = sym (prime-dropped c.args.text.now (length c.args.text.now - 1) (omega arith) c.if-text-len-ne33.false)
+returns-clause-letters c = sym (without_last-dropped 33 c.args.text.now (length c.args.text.now - 1) (omega arith) c.if-text-len-ne33.false)
 
 pub returns-clause-primed : goal.returns-clause-primed
 returns-clause-primed c = sym (primed-last c.args.text.now (length c.args.text.now - 1) (omega arith) c.if-text-len-ne33.false)

@@ -1,23 +1,23 @@
-use Rattle.std.proofs.Common.{[], get_or, map, take, sym, subst, ℕ, add-one}
+use Rattle.std.proofs.Common.{[], get_or, map, take, sym, subst}
+use Rattle.lists.proofs.Members.{mapped_read}
+use Rattle.lists.proofs.Walks.{member_taken}
 use Rattle.crystal_spec.specs.declared.Sign.TheVariants.{Same}
-use Rattle.crystal_spec.specs.Increasing.{IsMember}
 use Rattle.crystal_spec.specs.Matrices.{sum_of}
 use Rattle.crystal_spec.specs.Operations.{Operation, IsWithinCell}
-use Rattle.op_group.specs.Views.{translation_of}
+use Rattle.positions.specs.Positions.{triple_of}
 use Rattle.hall_text.specs.Products.{IsProduct}
 use Rattle.hall_text.specs.PureTables.{pure_of}
 use Rattle.hall_symbol.proofs.Compositions.{reduced_within}
 use Rattle.hall_text.proofs.Splitting.{sum_product}
-use Rattle.hall_symbol.proofs.Listed.{member_at}
-use Rattle.hall_text.proofs.Listed.{member_taken, get_same}
+use Rattle.std.proofs.lemmas.List.{get_or_default}
 use Rattle.hall_text.proofs.ClosureLemmas.{more_put, more_both, sums_next, made_put}
 use Rattle.hall_text.proofs.closure.put_sums.Goals as goal
 
 pub sum-requires-clause-d : goal.sum-requires-clause-d
-sum-requires-clause-d c = c.requires.within.each (pure_of (get_or c.args.steps.now c.loop-d.d-index (record { shift = []; sign = Same }))) (member_at pure_of c.args.steps.now c.loop-d.d-index (get_or c.args.steps.now c.loop-d.d-index (record { shift = []; sign = Same })) c.loop-d-test.true (get_same c.args.steps.now c.loop-d.d-index (record { shift = []; sign = Same }) c.loop-d-test.true))
+sum-requires-clause-d c = c.requires.within.each (pure_of (get_or c.args.steps.now c.loop-d.d-index (record { shift = []; sign = Same }))) (mapped_read pure_of c.args.steps.now c.loop-d.d-index (get_or c.args.steps.now c.loop-d.d-index (record { shift = []; sign = Same })) c.loop-d-test.true (get_or_default c.args.steps.now c.loop-d.d-index (record { shift = []; sign = Same }) (get_or c.args.steps.now c.loop-d.d-index (record { shift = []; sign = Same })) c.loop-d-test.true))
 
 pub put-requires : goal.put-requires
-put-requires c = subst (λ (o : Operation). IsWithinCell 12 o.translation) (sym c.sum.ensures) (reduced_within (sum_of (translation_of c.args.o.now.shift) (pure_of (get_or c.args.steps.now c.loop-d.d-index (record { shift = []; sign = Same }))).translation))
+put-requires c = subst (λ (o : Operation). IsWithinCell 12 o.translation) (sym c.sum.ensures) (reduced_within (sum_of (triple_of c.args.o.now.shift) (pure_of (get_or c.args.steps.now c.loop-d.d-index (record { shift = []; sign = Same }))).translation))
 
 pub loop-d-preserved : goal.loop-d-preserved
 loop-d-preserved c =
@@ -30,8 +30,8 @@ loop-d-preserved c =
     record {
       more = more_both c.args.table.now c.loop-d.table c.put.new.self h.more (more_put c.loop-d.table c.put.new.self p put);
       sums = λ e m. sums_next c.loop-d.table c.put.new.self o d p (map pure_of (take i c.args.steps.now)) c.sum.ensures put h.sums e
-          (member_taken pure_of c.args.steps.now i (get_or c.args.steps.now c.loop-d.d-index (record { shift = []; sign = Same })) e c.loop-d-test.true (get_same c.args.steps.now c.loop-d.d-index (record { shift = []; sign = Same }) c.loop-d-test.true) (subst (λ (k : ℕ). IsMember e (map pure_of (take k c.args.steps.now))) (add-one i) m));
+          (member_taken pure_of c.args.steps.now i (get_or c.args.steps.now c.loop-d.d-index (record { shift = []; sign = Same })) e c.loop-d-test.true (get_or_default c.args.steps.now c.loop-d.d-index (record { shift = []; sign = Same }) (get_or c.args.steps.now c.loop-d.d-index (record { shift = []; sign = Same })) c.loop-d-test.true) m);
       made = λ gens a b old. made_put gens c.loop-d.table c.put.new.self p put
-          (subst (IsProduct gens) (sym c.sum.ensures) (sum_product gens o.translation d.translation o.sign d.sign b (a.each d (member_at pure_of c.args.steps.now i (get_or c.args.steps.now c.loop-d.d-index (record { shift = []; sign = Same })) c.loop-d-test.true (get_same c.args.steps.now c.loop-d.d-index (record { shift = []; sign = Same }) c.loop-d-test.true)))))
+          (subst (IsProduct gens) (sym c.sum.ensures) (sum_product gens o.translation d.translation o.sign d.sign b (a.each d (mapped_read pure_of c.args.steps.now i (get_or c.args.steps.now c.loop-d.d-index (record { shift = []; sign = Same })) c.loop-d-test.true (get_or_default c.args.steps.now c.loop-d.d-index (record { shift = []; sign = Same }) (get_or c.args.steps.now c.loop-d.d-index (record { shift = []; sign = Same })) c.loop-d-test.true)))))
           (h.made gens a b old);
     }

@@ -1,9 +1,10 @@
-use Rattle.std.proofs.Common.{◌≡◌, ◌∙◌, ◌++◌, ◌≤◌, length, take, map, sym, ap, List, vec_items, arith, append-nil, take_all}
+use Rattle.std.proofs.Common.{◌∙◌, ◌++◌, map, sym, ap, List, vec_items, arith, append-nil, take_all}
+use Rattle.lists.proofs.Members.{member_read}
 use Rattle.op_group.specs.Views.{operation_of}
 use Rattle.crystal_spec.specs.Operations.{Operation}
 use Rattle.hall_text.specs.PureTables.{pure_of}
 use Rattle.hall_text.specs.Listings.{after}
-use Rattle.hall_text.proofs.Listed.{map_push, member_get}
+use Rattle.std.proofs.lemmas.List.{map_push}
 use Rattle.hall_text.proofs.ListingLemmas.{pushed_after, listed_after}
 use Rattle.hall_text.proofs.listing.add_operations.Goals as goal
 
@@ -12,7 +13,7 @@ loop-i-init c = sym (append-nil (map operation_of (vec_items c.args.ops.now)))
 
 pub after-requires-clause-p : goal.after-requires-clause-p
 after-requires-clause-p c =
-    (c.count-i-end.ensures.table.flagged (pure_of c.at.result) (member_get c.args.table.now.found c.loop-i.i (pure_of c.at.result) (omega (arith, c.loop-i-test.true, c.count-i-end.ensures.value)) c.at.ensures)).within
+    (c.count-i-end.ensures.table.flagged (pure_of c.at.result) (member_read c.args.table.now.found c.loop-i.i (pure_of c.at.result) (omega (arith, c.loop-i-test.true, c.count-i-end.ensures.value)) c.at.ensures)).within
 
 pub loop-i-preserved : goal.loop-i-preserved
 loop-i-preserved c =

@@ -1,5 +1,5 @@
 use Rattle.std.specs.Prelude.{◌↔◌}
-use Rattle.crystal_spec.specs.Increasing.{IsMember}
+use Rattle.lists.specs.Increasing.{IsMember}
 use Rattle.crystal_spec.specs.Matrices.{Triple}
 use Rattle.lattice_iso.proofs.Candidates.{IsFoundBelow}
 use Rattle.lattice_iso.proofs.columns.columns_of_length.Given as goal

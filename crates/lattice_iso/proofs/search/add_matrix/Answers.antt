@@ -1,5 +1,5 @@
 use Rattle.std.proofs.Common.{◌≡◌, ◌∙◌, ap, rules}
-use Rattle.crystal_spec.specs.Increasing.{inserted}
+use Rattle.lists.specs.Increasing.{inserted}
 use Rattle.crystal_spec.specs.Matrices.{Matrix}
 use Rattle.lattice_iso.specs.Isometries.{matrix_order}
 use Rattle.lattice_iso.specs.Columns.{scalar_product}

@@ -1,12 +1,13 @@
 use Rattle.std.proofs.Common.{◌≡◌, length, rules, arith}
+use Rattle.lists.proofs.Members.{member_read}
+use Rattle.lists.proofs.Any.{any_more, any_all}
 use Rattle.lattice_iso.specs.Columns.{scalar_product}
-use Rattle.lattice_iso.proofs.Members.{any_more, any_all, member_of_list}
 use Rattle.lattice_iso.proofs.ByColumns.{columns_of_third}
 use Rattle.lattice_iso.proofs.search.add_with_columns.Goals as goal
 
 pub add_matrix-requires-clause-c : goal.add_matrix-requires-clause-c
 add_matrix-requires-clause-c c =
-    ((c.requires.third.exact c.c-item.result).0 (member_of_list c.args.third.now c.loop-c.c-index c.c-item.result (omega arith) c.c-item.is)).small
+    ((c.requires.third.exact c.c-item.result).0 (member_read c.args.third.now c.loop-c.c-index c.c-item.result (omega arith) c.c-item.is)).small
 
 pub loop-c-preserved : goal.loop-c-preserved
 loop-c-preserved c w =

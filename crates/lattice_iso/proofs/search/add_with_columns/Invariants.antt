@@ -1,8 +1,9 @@
 use Rattle.std.proofs.Common.{take}
 use Rattle.std.specs.Prelude.{◌↔◌, ◌⊎◌}
-use Rattle.crystal_spec.specs.Increasing.{IsMember}
+use Rattle.lists.specs.Increasing.{IsMember}
+use Rattle.lists.specs.Any.{AnyOf}
 use Rattle.crystal_spec.specs.Matrices.{Matrix}
-use Rattle.lattice_iso.specs.Columns.{AnyOf, IsMatrixOf}
+use Rattle.lattice_iso.specs.Columns.{IsMatrixOf}
 use Rattle.lattice_iso.proofs.search.add_with_columns.Given as goal
 
 -- found so far: those that were there, and exactly those of the third columns so far

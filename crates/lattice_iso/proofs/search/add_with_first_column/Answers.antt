@@ -1,10 +1,11 @@
 use Rattle.std.proofs.Common.{◌≡◌, length, arith}
-use Rattle.lattice_iso.proofs.Members.{any_more, any_all, member_of_list}
+use Rattle.lists.proofs.Members.{member_read}
+use Rattle.lists.proofs.Any.{any_more, any_all}
 use Rattle.lattice_iso.proofs.search.add_with_first_column.Goals as goal
 
 pub add_with_columns-requires-clause-b : goal.add_with_columns-requires-clause-b
 add_with_columns-requires-clause-b c =
-    ((c.requires.second.exact c.b-item.result).0 (member_of_list c.args.second.now c.loop-b.b-index c.b-item.result (omega arith) c.b-item.is)).small
+    ((c.requires.second.exact c.b-item.result).0 (member_read c.args.second.now c.loop-b.b-index c.b-item.result (omega arith) c.b-item.is)).small
 
 pub loop-b-preserved : goal.loop-b-preserved
 loop-b-preserved c w =

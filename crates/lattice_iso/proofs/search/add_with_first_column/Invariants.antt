@@ -1,6 +1,6 @@
 use Rattle.std.proofs.Common.{take}
 use Rattle.std.specs.Prelude.{◌↔◌, ◌⊎◌}
-use Rattle.crystal_spec.specs.Increasing.{IsMember}
+use Rattle.lists.specs.Increasing.{IsMember}
 use Rattle.crystal_spec.specs.Matrices.{Matrix}
 use Rattle.lattice_iso.specs.Columns.{HasFirstColumn}
 use Rattle.lattice_iso.proofs.search.add_with_first_column.Given as goal

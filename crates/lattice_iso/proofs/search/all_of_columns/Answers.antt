@@ -1,10 +1,11 @@
 use Rattle.std.proofs.Common.{◌≡◌, length, arith}
-use Rattle.lattice_iso.proofs.Members.{any_more, any_all, only_left, member_of_list}
+use Rattle.lists.proofs.Members.{member_read}
+use Rattle.lists.proofs.Any.{any_more, any_all, only_left}
 use Rattle.lattice_iso.proofs.search.all_of_columns.Goals as goal
 
 pub add_with_first_column-requires-clause-a : goal.add_with_first_column-requires-clause-a
 add_with_first_column-requires-clause-a c =
-    ((c.requires.first.exact c.a-item.result).0 (member_of_list c.args.first.now c.loop-a.a-index c.a-item.result (omega arith) c.a-item.is)).small
+    ((c.requires.first.exact c.a-item.result).0 (member_read c.args.first.now c.loop-a.a-index c.a-item.result (omega arith) c.a-item.is)).small
 
 pub loop-a-preserved : goal.loop-a-preserved
 loop-a-preserved c w =

@@ -1,6 +1,6 @@
 use Rattle.std.proofs.Common.{take}
 use Rattle.std.specs.Prelude.{◌↔◌, ◌⊎◌}
-use Rattle.crystal_spec.specs.Increasing.{IsMember}
+use Rattle.lists.specs.Increasing.{IsMember}
 use Rattle.crystal_spec.specs.Matrices.{Matrix}
 use Rattle.lattice_iso.specs.Columns.{HasColumnsOf}
 use Rattle.lattice_iso.proofs.search.all_of_columns.Given as goal

@@ -1,7 +1,21 @@
-use Rattle.std.proofs.Common.{rules}
+use Rattle.std.proofs.Common.{rules, subst, sym, lit≤, ◌^◌}
+use Rattle.matrix3.specs.Bounds.{EntriesAtMost}
+use Rattle.matrix3.proofs.FitsBySize.{entries_grown}
 use Rattle.lattice_iso.specs.Columns.{ListsOfLength}
 use Rattle.lattice_iso.proofs.ByColumns.{tensor_of, entries_of_short, result_listed}
 use Rattle.lattice_iso.proofs.search.isometries.Goals as goal
+
+pub columns_of_length-requires : goal.columns_of_length-requires
+columns_of_length-requires c = record { metric = subst (EntriesAtMost (10 ^ 34)) (sym c.matrix-g.ensures) (entries_grown (lit≤ tt) c.requires.small) }
+
+pub columns_of_length-requires-2 : goal.columns_of_length-requires-2
+columns_of_length-requires-2 c = record { metric = subst (EntriesAtMost (10 ^ 34)) (sym c.matrix-g.ensures) (entries_grown (lit≤ tt) c.requires.small) }
+
+pub columns_of_length-requires-3 : goal.columns_of_length-requires-3
+columns_of_length-requires-3 c = record { metric = subst (EntriesAtMost (10 ^ 34)) (sym c.matrix-g.ensures) (entries_grown (lit≤ tt) c.requires.small) }
+
+pub all_of_columns-requires-clause-metric : goal.all_of_columns-requires-clause-metric
+all_of_columns-requires-clause-metric c = subst (EntriesAtMost (10 ^ 34)) (sym c.matrix-g.ensures) (entries_grown (lit≤ tt) c.requires.small)
 
 pub returns-in_err-first-clause-entries : goal.returns-in_err-first-clause-entries
 returns-in_err-first-clause-entries c g w symmetric short k = entries_of_short g w symmetric short k

@@ -1,14 +1,14 @@
 use Rattle.std.proofs.Common.{◌≡◌, ◌⊎◌, ◌++◌, [], ◌∷◌, ℕ, List, length, map, sym, ap, subst, ◌∙◌, rules, arith}
 use Rattle.std.specs.Prelude.{◌↔◌}
+use Rattle.lists.specs.Increasing.{IsMember}
+use Rattle.lists.proofs.Any.{any_more, any_all, any_mapped}
 use Rattle.crystal_spec.specs.Matrices.{Triple}
-use Rattle.crystal_spec.specs.Increasing.{IsMember}
 use Rattle.crystal_spec.specs.Operations.{Operation}
-use Rattle.lattice_iso.proofs.Members.{any_more, any_all}
 use Rattle.op_group.specs.Lists.{OperationList}
 use Rattle.op_group.specs.Views.{operation_of}
 use Rattle.op_group.specs.declared.operation.Op.{Op}
 use Rattle.mag_ops.specs.Carried.{IsTranslated, translated}
-use Rattle.mag_ops.proofs.Carrying.{operation_pushed, either_same, any_mapped}
+use Rattle.mag_ops.proofs.Carrying.{operation_pushed, either_same}
 use Rattle.mag_ops.proofs.carried.add_translated.Goals as goal
 
 pub loop-pure-preserved : goal.loop-pure-preserved
@@ -31,6 +31,6 @@ returns c o =
     let n : c.n-n.result ≡ p.cell.n = search rules in
     let same : map operation_of ops ≡ p.shifts.operations = c.ops-pure_translations.ensures ∙ ap (λ (l : OperationList). l.operations) c.shifts.ensures in
     let all = any_all ops c.loop-pure.pure-index (λ x. o ≡ translated c.n-n.result c.args.w.now c.args.start.now c.args.sign (operation_of x)) ended (c.loop-pure.invariant o) in
-    let mapped = either_same (any_mapped ops (λ q. o ≡ translated c.n-n.result c.args.w.now c.args.start.now c.args.sign q)) all in
+    let mapped = either_same (any_mapped operation_of ops (λ q. o ≡ translated c.n-n.result c.args.w.now c.args.start.now c.args.sign q)) all in
     subst (λ (m : ℕ). IsMember o (map operation_of c.loop-pure.found.items) ↔ (IsTranslated m c.args.w.now c.args.start.now c.args.sign p.shifts.operations o ⊎ IsMember o (map operation_of c.args.found.now.items))) n
     (subst (λ (l : List Operation). IsMember o (map operation_of c.loop-pure.found.items) ↔ (IsTranslated c.n-n.result c.args.w.now c.args.start.now c.args.sign l o ⊎ IsMember o (map operation_of c.args.found.now.items))) same mapped)

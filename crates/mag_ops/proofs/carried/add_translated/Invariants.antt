@@ -1,8 +1,8 @@
 use Rattle.std.proofs.Common.{◌≡◌, take, map}
 use Rattle.std.specs.Prelude.{◌↔◌, ◌⊎◌}
-use Rattle.crystal_spec.specs.Increasing.{IsMember}
+use Rattle.lists.specs.Increasing.{IsMember}
+use Rattle.lists.specs.Any.{AnyOf}
 use Rattle.crystal_spec.specs.Operations.{Operation}
-use Rattle.lattice_iso.specs.Columns.{AnyOf}
 use Rattle.op_group.specs.Views.{operation_of}
 use Rattle.mag_ops.specs.Carried.{translated}
 use Rattle.mag_ops.proofs.carried.add_translated.Given as goal

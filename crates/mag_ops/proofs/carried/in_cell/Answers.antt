@@ -1,29 +1,30 @@
 use Rattle.std.proofs.Common.{◌≡◌, ℕ, length, sym, ap, subst, ◌∙◌, arith}
 use Rattle.std.specs.Prelude.{◌↔◌}
+use Rattle.lists.specs.Increasing.{IsMember}
+use Rattle.lists.proofs.Members.{member_read, mapped_member}
+use Rattle.lists.proofs.Any.{any_more}
 use Rattle.crystal_spec.specs.Crystals.{Structure}
-use Rattle.crystal_spec.specs.Increasing.{IsMember}
 use Rattle.crystal_spec.specs.Operations.{Operation, IsWithinCell}
 use Rattle.crystal_spec.specs.Cells.{IsCell}
 use Rattle.basis_spec.specs.Carrying.{IsCarried}
 use Rattle.basis_spec.proofs.AllOperations.{in_cell_is_all, in_cell_is_all_same}
-use Rattle.lattice_iso.proofs.Members.{any_more, member_of_list}
 use Rattle.op_group.specs.Views.{operation_of}
 use Rattle.mag_ops.specs.Carried.{IsCarriedFrom}
-use Rattle.mag_ops.proofs.Carrying.{member_mapped, list_carried, symmetry_of_group, reduced_isometry_small}
+use Rattle.mag_ops.proofs.Carrying.{list_carried, symmetry_of_group, reduced_isometry_small}
 use Rattle.mag_ops.proofs.carried.in_cell.Goals as goal
 
 pub add_carried-requires-clause-small : goal.add_carried-requires-clause-small
 add_carried-requires-clause-small c =
     let cell = subst (λ (s : Structure). IsCell s) c.cell-cell.ensures c.count-form.ensures.cell in
     let v = operation_of c.op-item.result in
-    let member = subst (IsMember v) c.ops-ops.ensures (member_mapped c.ops-ops.result.now c.op-item.result (member_of_list c.ops-ops.result.now c.loop-op.op-index c.op-item.result (omega arith) c.op-item.is)) in
+    let member = subst (IsMember v) c.ops-ops.ensures (mapped_member operation_of c.op-item.result c.ops-ops.result.now (member_read c.ops-ops.result.now c.loop-op.op-index c.op-item.result (omega arith) c.op-item.is)) in
     let symmetry = symmetry_of_group c.args.prim.now.cell c.args.list.now.operations c.requires.group v member in
     reduced_isometry_small c.args.prim.now.cell.metric v.matrix c.index-index.ensures.form.niggli cell.symmetric symmetry.keeps.metric
 
 pub add_carried-requires-clause-below_n : goal.add_carried-requires-clause-below_n
 add_carried-requires-clause-below_n c =
     let v = operation_of c.op-item.result in
-    let member = subst (IsMember v) c.ops-ops.ensures (member_mapped c.ops-ops.result.now c.op-item.result (member_of_list c.ops-ops.result.now c.loop-op.op-index c.op-item.result (omega arith) c.op-item.is)) in
+    let member = subst (IsMember v) c.ops-ops.ensures (mapped_member operation_of c.op-item.result c.ops-ops.result.now (member_read c.ops-ops.result.now c.loop-op.op-index c.op-item.result (omega arith) c.op-item.is)) in
     (symmetry_of_group c.args.prim.now.cell c.args.list.now.operations c.requires.group v member).translation
 
 pub loop-op-preserved : goal.loop-op-preserved

@@ -1,7 +1,11 @@
-use Rattle.basis_spec.specs.Positions.{residue}
-use Rattle.crystal_spec.proofs.Entrywise.{triple_same}
+use Rattle.std.proofs.Common.{ap, ◌∙◌, lit≤}
+use Rattle.crystal_spec.specs.Matrices.{sum_of}
+use Rattle.matrix3.proofs.FitsBySize.{sum_size, coordinates_grown}
+use Rattle.positions.specs.Positions.{modulo}
 use Rattle.mag_ops.proofs.carried.moved.Goals as goal
 
+pub plus-requires : goal.plus-requires
+plus-requires c = record { fits = coordinates_grown (lit≤ tt) (sum_size c.requires.size c.column.ensures.size) }
+
 pub returns : goal.returns
-unfolding residue
-returns c = triple_same c.sum_modulo.ensures c.sum_modulo-2.ensures c.sum_modulo-3.ensures
+returns c = c.modulo.ensures ∙ ap (modulo c.args.n) (c.plus.ensures ∙ ap (sum_of c.args.start.now) c.column.ensures.value)

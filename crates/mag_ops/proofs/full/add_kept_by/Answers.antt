@@ -1,6 +1,6 @@
 use Rattle.std.proofs.Common.{◌≡◌, ℕ, ◌⊎◌, ◌+◌, ◌*◌, ◌≤◌, drop, length, subst, sym, ap, ◌∙◌, arith, rules}
 use Rattle.std.specs.Prelude.{◌↔◌, slice_get, Some}
-use Rattle.crystal_spec.specs.Increasing.{IsMember}
+use Rattle.lists.specs.Increasing.{IsMember}
 use Rattle.crystal_spec.specs.Crystals.{Structure}
 use Rattle.crystal.specs.Views.{site_of}
 use Rattle.op_group.specs.Lists.{OperationList}

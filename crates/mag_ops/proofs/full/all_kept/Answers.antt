@@ -1,16 +1,17 @@
 use Rattle.std.proofs.Common.{◌≡◌, ℕ, ◌⊎◌, ◌+◌, ◌*◌, ◌≤◌, drop, length, subst, sym, lit≤, arith}
+use Rattle.lists.specs.Increasing.{IsMember}
+use Rattle.lists.proofs.Members.{member_at}
 use Rattle.crystal_spec.specs.Matrices.{Matrix}
-use Rattle.crystal.specs.Bounds.{EntriesAtMost}
+use Rattle.matrix3.specs.Bounds.{EntriesAtMost}
 use Rattle.std.specs.Prelude.{◌↔◌}
-use Rattle.crystal_spec.specs.Increasing.{IsMember}
 use Rattle.crystal_spec.specs.Crystals.{Structure}
 use Rattle.crystal_spec.specs.Operations.{Operation}
 use Rattle.basis_spec.specs.Translations.{of_species, IsRarest}
 use Rattle.mag_ops.specs.Candidates.{IsKeptBy, IsFoundBelow}
 use Rattle.mag_ops.specs.Groups.{signs}
-use Rattle.crystal.proofs.Ranges.{entries_grown}
+use Rattle.matrix3.proofs.FitsBySize.{entries_grown}
 use Rattle.mag_ops.proofs.Found.{found_more, found_all}
-use Rattle.mag_ops.proofs.Counts.{member_at, cost_at, rarest_once, tested_more, tested_in_all, listed_from_none}
+use Rattle.mag_ops.proofs.Counts.{cost_at, rarest_once, tested_more, tested_in_all, listed_from_none}
 use Rattle.mag_ops.proofs.full.all_kept.Goals as goal
 
 pub add_kept_by-requires-clause-small : goal.add_kept_by-requires-clause-small

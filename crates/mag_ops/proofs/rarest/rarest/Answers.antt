@@ -1,7 +1,8 @@
 use Rattle.std.proofs.Common.{◌≡◌, ℕ, ◌+◌, ◌<◌, ◌≤◌, length, sym, subst, arith, rules}
+use Rattle.lists.proofs.Members.{member_at}
 use Rattle.crystal_spec.specs.Crystals.{Site}
 use Rattle.crystal.specs.Views.{site_of}
-use Rattle.mag_ops.proofs.Counts.{IsLeastSoFar, member_at, least_first, least_new, least_kept, least_all}
+use Rattle.mag_ops.proofs.Counts.{IsLeastSoFar, least_first, least_new, least_kept, least_all}
 use Rattle.mag_ops.proofs.rarest.rarest.Goals as goal
 use Rattle.mag_ops.proofs.rarest.rarest.Goals.{then-count-least, else-count-least}
 

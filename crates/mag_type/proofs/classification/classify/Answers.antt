@@ -1,7 +1,7 @@
 use Rattle.std.proofs.Common.{sym, subst}
+use Rattle.lists.proofs.Increasing.{increasing_distinct}
 use Rattle.crystal_spec.specs.Operations.{compare_of}
 use Rattle.crystal_spec.proofs.Ordered.{compare_total}
-use Rattle.basis_spec.proofs.TranslationLists.{increasing_distinct}
 use Rattle.mag_type.specs.Families.{IsUnprimed, IsNumberOf}
 use Rattle.mag_type.proofs.FamilyOrders.{unprimed_number}
 use Rattle.mag_type.proofs.OneType.{one_type}

@@ -1,7 +1,7 @@
 use Rattle.std.proofs.Common.{◌+◌, ◌<◌, length, sym, subst, arith}
+use Rattle.lists.proofs.Increasing.{increasing_distinct}
 use Rattle.crystal_spec.specs.Operations.{compare_of}
 use Rattle.crystal_spec.proofs.Ordered.{compare_total}
-use Rattle.basis_spec.proofs.TranslationLists.{increasing_distinct}
 use Rattle.mag_type.proofs.FamilyOrders.{AreCounted, counted_more, counted_same, counted_all}
 use Rattle.mag_type.proofs.classification.family_count.Goals.{then-is_first_of_pair, else-is_first_of_pair}
 use Rattle.mag_type.proofs.classification.family_count.Goals as goal

@@ -1,7 +1,8 @@
 use Rattle.std.proofs.Common.{◌<◌, ℕ, List, length, subst, sym, ap, ◌∙◌, arith}
 use Rattle.crystal_spec.specs.declared.MomentKind.{MomentKind}
 use Rattle.crystal_spec.specs.Crystals.{Structure}
-use Rattle.crystal.specs.Views.{site_of, triple_of}
+use Rattle.crystal.specs.Views.{site_of}
+use Rattle.positions.specs.Positions.{triple_of}
 use Rattle.crystal.specs.Cells.{IsSiteOf}
 use Rattle.moment_space.proofs.Replacing.{few_so_far, free_so_far, replaced_more}
 use Rattle.moment_space.proofs.filled.add_atoms.Goals as goal

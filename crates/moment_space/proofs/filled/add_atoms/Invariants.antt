@@ -1,5 +1,5 @@
 use Rattle.std.proofs.Common.{take}
-use Rattle.crystal.specs.Views.{triple_of}
+use Rattle.positions.specs.Positions.{triple_of}
 use Rattle.moment_space.specs.Carried.{HasReplaced}
 use Rattle.moment_space.proofs.filled.add_atoms.Given as goal
 

@@ -2,8 +2,8 @@ use Rattle.std.proofs.Common.{◌≡◌, ℕ, true, refl, sym, subst, ◌∙◌}
 use Rattle.crystal_spec.specs.declared.MomentKind.{MomentKind}
 use Rattle.crystal_spec.specs.Matrices.{image}
 use Rattle.crystal_spec.specs.Crystals.{Structure}
-use Rattle.crystal.specs.Views.{site_of, triple_of}
-use Rattle.basis_spec.specs.Positions.{residue}
+use Rattle.crystal.specs.Views.{site_of}
+use Rattle.positions.specs.Positions.{modulo, triple_of}
 use Rattle.op_group.specs.Groups.{IsGroupModulo}
 use Rattle.moment_space.specs.Projectors.{IsAllowed}
 use Rattle.moment_space.specs.Carried.{HasReplaced}
@@ -61,8 +61,8 @@ returns-clause-value c =
     let yes : c.allows.result ≡ true = c.if-not-allows.false in
     let allowed : IsAllowed s.kind c.args.site.now.operations c.args.m.now = subst (λ (k : MomentKind). IsAllowed k c.args.site.now.operations c.args.m.now) c.kind.ensures ((c.projector.ensures.exact c.args.m.now).0 (c.allows.ensures.0 yes)) in
     let x = site_of c.atom.result.now in
-    let p = triple_of c.place_in_basis-place.result in
-    let place : p ≡ residue s.n (image r x.position) = c.place_in_basis-place.ensures ∙ (λ i. residue (c.n.ensures i) (image (c.back.ensures i) x.position)) in
+    let p = triple_of c.image-place.result in
+    let place : p ≡ modulo s.n (image r x.position) = c.image-place.ensures ∙ (λ i. modulo ((c.new.ensures.modulus ∙ c.n.ensures) i) (image ((c.new.ensures.matrix ∙ c.back.ensures) i) x.position)) in
     let replaced : HasReplaced b.kind b.n os p c.args.m.now b.sites b c.in_ok-made.made =
     subst (λ (n : ℕ). HasReplaced b.kind n os p c.args.m.now b.sites b c.in_ok-made.made) c.requires.n
     (subst (λ (t : Structure). HasReplaced t.kind c.args.list.now.n os p c.args.m.now t.sites t c.in_ok-made.made) c.cell-2.ensures c.in_ok-made.ensures) in
@@ -77,8 +77,8 @@ returns-clause-kept c =
     let yes : c.allows.result ≡ true = c.if-not-allows.false in
     let allowed : IsAllowed s.kind c.args.site.now.operations c.args.m.now = subst (λ (k : MomentKind). IsAllowed k c.args.site.now.operations c.args.m.now) c.kind.ensures ((c.projector.ensures.exact c.args.m.now).0 (c.allows.ensures.0 yes)) in
     let x = site_of c.atom.result.now in
-    let p = triple_of c.place_in_basis-place.result in
-    let place : p ≡ residue s.n (image r x.position) = c.place_in_basis-place.ensures ∙ (λ i. residue (c.n.ensures i) (image (c.back.ensures i) x.position)) in
+    let p = triple_of c.image-place.result in
+    let place : p ≡ modulo s.n (image r x.position) = c.image-place.ensures ∙ (λ i. modulo ((c.new.ensures.modulus ∙ c.n.ensures) i) (image ((c.new.ensures.matrix ∙ c.back.ensures) i) x.position)) in
     let replaced : HasReplaced b.kind b.n os p c.args.m.now b.sites b c.in_ok-made.made =
     subst (λ (n : ℕ). HasReplaced b.kind n os p c.args.m.now b.sites b c.in_ok-made.made) c.requires.n
     (subst (λ (t : Structure). HasReplaced t.kind c.args.list.now.n os p c.args.m.now t.sites t c.in_ok-made.made) c.cell-2.ensures c.in_ok-made.ensures) in

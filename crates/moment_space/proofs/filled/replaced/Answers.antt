@@ -2,7 +2,8 @@ use Rattle.std.proofs.Common.{sym, subst, refl, inl, inr}
 use Rattle.crystal_spec.specs.declared.MomentKind.{MomentKind}
 use Rattle.crystal_spec.specs.Moments.{IsOfKind}
 use Rattle.crystal_spec.specs.Operations.{sign_factor}
-use Rattle.crystal.specs.Views.{site_of, triple_of}
+use Rattle.crystal.specs.Views.{site_of}
+use Rattle.positions.specs.Positions.{triple_of}
 use Rattle.moment_space.specs.Carried.{IsCarriedMoment}
 use Rattle.moment_space.proofs.Ranges.{moment-of_kind}
 use Rattle.moment_space.proofs.filled.replaced.Goals as goal

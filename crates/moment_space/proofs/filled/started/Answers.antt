@@ -5,8 +5,9 @@ use Rattle.crystal_spec.specs.Matrices.{Matrix}
 use Rattle.crystal_spec.specs.Moments.{IsOfKind}
 use Rattle.crystal_spec.specs.Crystals.{Structure, IsPositive}
 use Rattle.crystal_spec.specs.Operations.{IsWithinCell}
-use Rattle.crystal.specs.Bounds.{EntriesAtMost}
-use Rattle.crystal.specs.Views.{site_of, triple_of, metric_of}
+use Rattle.matrix3.specs.Bounds.{EntriesAtMost}
+use Rattle.crystal.specs.Views.{site_of, metric_of}
+use Rattle.positions.specs.Positions.{triple_of}
 use Rattle.moment_space.proofs.Replacing.{started_is}
 use Rattle.moment_space.proofs.filled.started.Goals as goal
 

@@ -1,8 +1,8 @@
 use Rattle.std.proofs.Common.{drop}
-use Rattle.op_group.specs.Views.{translation_of}
+use Rattle.positions.specs.Positions.{triple_of}
 use Rattle.op_group.proofs.LeastSteps.{IsLeastSoFar}
 use Rattle.op_group.proofs.steps.least_step.Given as goal
 
 -- the least of the steps so far
 abbrev pub invariant-loop-i : goal.invariant-loop-i
-invariant-loop-i l = IsLeastSoFar l.list.n l.list.operations (drop l.i l.list.operations) l.axis (translation_of l.least)
+invariant-loop-i l = IsLeastSoFar l.list.n l.list.operations (drop l.i l.list.operations) l.axis (triple_of l.least)

@@ -1,4 +1,4 @@
-use Rattle.std.proofs.Common.{◌++◌, ◌^◌, ◌+◌, ◌*◌, length, ap, sym, ◌∙◌}
+use Rattle.std.proofs.Common.{◌^◌, ◌+◌, ◌*◌, length, ap, sym, ◌∙◌}
 use Rattle.std.specs.Prelude.{ℕ, pos}
 use Rattle.numbers.specs.Fraction.{Fraction, lowest}
 use Rattle.plain_text.specs.NumberWords.{signed}

@@ -1,22 +1,20 @@
-use Rattle.std.proofs.Common.{◌≡◌, subst, sym, ap, ◌∙◌, lit≤, ◌*◌, ◌+◌, ◌^◌}
+use Rattle.std.proofs.Common.{◌≡◌, subst, sym, ap, ◌∙◌, ◌*◌, ◌+◌, ◌^◌}
 use Rattle.crystal_spec.specs.Matrices.{Matrix, product, transposed}
 use Rattle.crystal.specs.declared.limits.TheConstants.{MOST_ATOMS}
-use Rattle.crystal.specs.Bounds.{EntriesAtMost}
-use Rattle.crystal.proofs.Ranges.{product_fits, at_most_product, at_most_transposed}
+use Rattle.matrix3.specs.Bounds.{EntriesAtMost}
+use Rattle.matrix3.proofs.FitsBySize.{product_fits, product_size, transposed_size}
 use Rattle.basis_spec.specs.Metrics.{metric_in}
 use Rattle.basis_spec.proofs.Positive.{symmetric_metric_in}
 use Rattle.prim_cell.proofs.ReducedBases.{six_entries}
 use Rattle.prim_cell.proofs.basis.changed_metric.Goals as goal
 
 pub times-requires-clause-fits : goal.times-requires-clause-fits
-times-requires-clause-fits c = product_fits (10 ^ 9) MOST_ATOMS _ _ (lit≤ tt) c.requires.metric c.requires.columns
+times-requires-clause-fits c = product_fits _ _ c.requires.metric c.requires.columns tt
 
 pub times-changed-requires-clause-fits : goal.times-changed-requires-clause-fits
 times-changed-requires-clause-fits c =
     let n = 10 ^ 9 * MOST_ATOMS + 10 ^ 9 * MOST_ATOMS + 10 ^ 9 * MOST_ATOMS in
-    product_fits MOST_ATOMS n _ _ (lit≤ tt)
-    (subst (EntriesAtMost MOST_ATOMS) (sym c.transpose.ensures) (at_most_transposed _ _ c.requires.columns))
-    (subst (EntriesAtMost n) (sym c.times.ensures.value) (at_most_product (10 ^ 9) MOST_ATOMS _ _ c.requires.metric c.requires.columns))
+    product_fits _ _ (subst (EntriesAtMost MOST_ATOMS) (sym c.transpose.ensures) (transposed_size _ c.requires.columns)) (subst (EntriesAtMost n) (sym c.times.ensures.value) (product_size _ _ c.requires.metric c.requires.columns)) tt
 
 pub returns : goal.returns
 returns c =

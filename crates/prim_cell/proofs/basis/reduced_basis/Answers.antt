@@ -1,10 +1,10 @@
-use Rattle.std.proofs.Common.{◌≡◌, ◌≤◌, ℕ, subst, sym, ap, ◌∙◌, lit≤, ◌^◌, arith}
+use Rattle.std.proofs.Common.{◌≡◌, ◌≤◌, ℕ, subst, sym, ap, ◌∙◌, ◌^◌, arith}
 use Rattle.crystal_spec.specs.Matrices.{Matrix, product}
 use Rattle.crystal_spec.specs.Crystals.{IsPositive}
 use Rattle.crystal.specs.Views.{metric_of}
 use Rattle.crystal.specs.declared.limits.TheConstants.{MOST_ATOMS}
-use Rattle.crystal.specs.Bounds.{EntriesAtMost}
-use Rattle.crystal.proofs.Ranges.{product_fits}
+use Rattle.matrix3.specs.Bounds.{EntriesAtMost}
+use Rattle.matrix3.proofs.FitsBySize.{product_fits}
 use Rattle.basis_spec.specs.Metrics.{metric_in}
 use Rattle.basis_spec.specs.StepBases.{IsClosed, IsSteps, InLattice}
 use Rattle.basis_spec.proofs.TranslationLists.{pure_closed}
@@ -55,14 +55,14 @@ times-requires-clause-fits c =
     let found = c.step_basis-steps.result in
     let h = few_pure c.args.cell.now c.count-form.ensures.cell c.count-form.ensures.form.few c.args.shifts.now.operations c.requires.exact in
     let e = c.step_basis-steps.ensures.count (λ o m. ((c.requires.exact.exact o).0 m).0) in
-    product_fits (10 ^ 24) MOST_ATOMS _ _ (lit≤ tt) c.reduce-reduced.ensures.back_entries (entries_of_each found.index MOST_ATOMS found.back (subst (λ (n : ℕ). n ≤ MOST_ATOMS) e h) c.step_basis-steps.ensures.back_entries)
+    product_fits _ _ c.reduce-reduced.ensures.back_entries (entries_of_each found.index MOST_ATOMS found.back (subst (λ (n : ℕ). n ≤ MOST_ATOMS) e h) c.step_basis-steps.ensures.back_entries) tt
 
 pub times-requires-2-clause-fits : goal.times-requires-2-clause-fits
 times-requires-2-clause-fits c =
     let found = c.step_basis-steps.result in
     let h = few_pure c.args.cell.now c.count-form.ensures.cell c.count-form.ensures.form.few c.args.shifts.now.operations c.requires.exact in
     let e = c.step_basis-steps.ensures.count (λ o m. ((c.requires.exact.exact o).0 m).0) in
-    product_fits MOST_ATOMS (10 ^ 24) _ _ (lit≤ tt) (entries_of_each found.index MOST_ATOMS found.fore (subst (λ (n : ℕ). n ≤ MOST_ATOMS) e h) c.step_basis-steps.ensures.fore_entries) c.reduce-reduced.ensures.base_entries
+    product_fits _ _ (entries_of_each found.index MOST_ATOMS found.fore (subst (λ (n : ℕ). n ≤ MOST_ATOMS) e h) c.step_basis-steps.ensures.fore_entries) c.reduce-reduced.ensures.base_entries tt
 
 pub returns : goal.returns
 returns c =

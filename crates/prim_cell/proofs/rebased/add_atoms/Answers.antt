@@ -1,12 +1,13 @@
 use Rattle.std.proofs.Common.{◌≡◌, ◌<◌, ℕ, List, [], ◌∷◌, ◌++◌, length, map, take, subst, sym, ap, ◌∙◌, arith}
+use Rattle.lists.proofs.Members.{member_at}
+use Rattle.lists.proofs.Walks.{map_at}
 use Rattle.crystal_spec.specs.declared.MomentKind.{MomentKind}
 use Rattle.crystal_spec.specs.Crystals.{Site, Structure}
 use Rattle.crystal.specs.declared.limits.TheConstants.{MOST_ATOMS}
 use Rattle.crystal.specs.Views.{site_of}
 use Rattle.crystal.specs.Cells.{IsSiteOf}
-use Rattle.crystal.proofs.ImageLemmas.{member_at}
 use Rattle.basis_spec.specs.Bases.{first_at_each_position, site_in_basis}
-use Rattle.prim_cell.proofs.Making.{few_so_far, mapped_more, site_rebased}
+use Rattle.prim_cell.proofs.Making.{few_so_far, site_rebased}
 use Rattle.prim_cell.proofs.rebased.add_atoms.Goals as goal
 
 pub atom_in_basis-requires-clause-moment : goal.atom_in_basis-requires-clause-moment
@@ -19,11 +20,11 @@ put-requires-clause-site c =
     let names = ap (λ (t : Structure). t.names) c.loop-i.invariant ∙ c.requires.names in
     let n = ap (λ (t : Structure). t.n) c.loop-i.invariant ∙ c.requires.n in
     let kind = ap (λ (t : Structure). t.kind) c.loop-i.invariant ∙ c.requires.kind in
-    let value = c.atom_in_basis.ensures.value ∙ ap (λ (k : MomentKind). site_in_basis c.n-n.result k c.args.r.now (site_of c.atom.result.now)) c.kind-kind.ensures in
+    let value = c.atom_in_basis.ensures.value ∙ ap (λ (k : MomentKind). site_in_basis c.new-basis.result.modulus k c.new-basis.result.matrix (site_of c.atom.result.now)) c.kind-kind.ensures in
     subst (λ (k : MomentKind). IsSiteOf (length c.loop-i.made.names) c.loop-i.made.n k b) (sym kind)
     (subst (λ (l : List (List ℕ)). IsSiteOf (length l) c.loop-i.made.n s.kind b) (sym names)
     (subst (λ (m : ℕ). IsSiteOf (length s.names) m s.kind b) (sym n)
-    (site_rebased s c.count-i-end.ensures.form c.n-n.result c.n-n.ensures c.args.r.now (site_of c.atom.result.now) b c.atom.ensures.form value c.atom_in_basis.ensures.moment)))
+    (site_rebased s c.count-i-end.ensures.form c.new-basis.result.modulus (c.new-basis.ensures.modulus ∙ c.n.ensures) c.new-basis.result.matrix (site_of c.atom.result.now) b c.atom.ensures.form value c.atom_in_basis.ensures.moment)))
 
 pub put-requires-clause-fewer : goal.put-requires-clause-fewer
 put-requires-clause-fewer c =
@@ -37,7 +38,7 @@ loop-i-preserved c =
     let i = c.loop-i.i in
     let x = site_of c.atom.result.now in
     let f = site_in_basis s.n s.kind c.args.r.now in
-    let value : site_of c.atom_in_basis.result ≡ f x = c.atom_in_basis.ensures.value ∙ (λ j. site_in_basis (c.n-n.ensures j) (c.kind-kind.ensures j) c.args.r.now x) in
+    let value : site_of c.atom_in_basis.result ≡ f x = c.atom_in_basis.ensures.value ∙ (λ j. site_in_basis ((c.new-basis.ensures.modulus ∙ c.n.ensures) j) (c.kind-kind.ensures j) (c.new-basis.ensures.matrix j) x) in
     c.in_ok-put.ensures (map f (take i s.sites)) (ap (λ (t : Structure). t.sites) c.loop-i.invariant)
     ∙ ap (λ (t : Structure). record t { sites = first_at_each_position (map f (take i s.sites) ++ site_of c.atom_in_basis.result ∷ []) }) c.loop-i.invariant
-    ∙ ap (λ (l : List Site). record c.args.made.now { sites = first_at_each_position l }) (ap (λ (b : Site). map f (take i s.sites) ++ b ∷ []) value ∙ mapped_more f s.sites i x c.atom.ensures.value)
+    ∙ ap (λ (l : List Site). record c.args.made.now { sites = first_at_each_position l }) (ap (λ (b : Site). map f (take i s.sites) ++ b ∷ []) value ∙ map_at f s.sites i x c.atom.ensures.value)

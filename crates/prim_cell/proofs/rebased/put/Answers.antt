@@ -1,6 +1,7 @@
 use Rattle.std.proofs.Common.{◌≡◌, [], ◌∷◌, ◌++◌, List, true, subst, sym, ap, ◌∙◌}
 use Rattle.crystal_spec.specs.Crystals.{Site}
-use Rattle.crystal.specs.Views.{site_of, triple_of}
+use Rattle.crystal.specs.Views.{site_of}
+use Rattle.positions.specs.Positions.{triple_of}
 use Rattle.crystal.specs.Occupants.{NoneAt}
 use Rattle.prim_cell.proofs.Folding.{put_new, put_seen}
 use Rattle.prim_cell.proofs.rebased.put.Goals as goal

@@ -4,11 +4,11 @@ use Rattle.crystal_spec.specs.declared.Sign.TheVariants.{Same}
 use Rattle.crystal_spec.specs.Matrices.{Matrix, difference}
 use Rattle.crystal_spec.specs.Crystals.{Structure, Keeps}
 use Rattle.crystal_spec.specs.Operations.{IsWithinCell}
-use Rattle.crystal.specs.Views.{site_of, triple_of}
+use Rattle.crystal.specs.Views.{site_of}
 use Rattle.crystal.specs.Cells.{IsCellWithinLimits}
 use Rattle.op_group.specs.Views.{operation_of}
-use Rattle.basis_spec.specs.Positions.{residue}
-use Rattle.basis_spec.proofs.Residues.{residue_within}
+use Rattle.positions.specs.Positions.{modulo, triple_of}
+use Rattle.positions.proofs.Residues.{modulo_within}
 use Rattle.prim_cell.proofs.Moving.{some_cells}
 use Rattle.prim_cell.proofs.Found.{onto_kept}
 use Rattle.prim_cell.proofs.translation.add_onto.Goals as goal
@@ -18,7 +18,7 @@ insert-requires c =
     let s = c.args.places.now in
     let p = difference (triple_of c.atom-atom.result.now.place) (triple_of c.atom-first.result.now.place) in
     let same_n = c.n.ensures ∙ ap (λ (t : Structure). t.n) c.cell-cell.ensures in
-    record { below_n = subst (λ (n : ℕ). IsWithinCell n (triple_of c.between-shift.result)) (sym c.requires.n) (subst (IsWithinCell s.n) (sym (c.between-shift.ensures ∙ ap (λ (n : ℕ). residue n p) same_n)) (residue_within s.n p (some_cells s (subst IsCellWithinLimits c.cell-cell.ensures c.count-form.ensures.form)))) }
+    record { below_n = subst (λ (n : ℕ). IsWithinCell n (triple_of c.between-shift.result)) (sym c.requires.n) (subst (IsWithinCell s.n) (sym (c.between-shift.ensures ∙ ap (λ (n : ℕ). modulo n p) same_n)) (modulo_within s.n p (some_cells s (subst IsCellWithinLimits c.cell-cell.ensures c.count-form.ensures.form)))) }
 
 pub returns-in_ok-insert-clause-members : goal.returns-in_ok-insert-clause-members
 returns-in_ok-insert-clause-members c o =
@@ -30,7 +30,7 @@ returns-in_ok-insert-clause-members c o =
     let at_first = subst (λ (t : Structure). slice_get t.sites c.args.from ≡ Some from) same c.atom-first.ensures.value in
     let at_atom = subst (λ (t : Structure). slice_get t.sites c.args.onto ≡ Some onto) same c.atom-atom.ensures.value in
     let species : onto.species ≡ from.species = search rules in
-    let step = c.between-shift.ensures ∙ ap (λ (n : ℕ). residue n (difference onto.position from.position)) same_n in
+    let step = c.between-shift.ensures ∙ ap (λ (n : ℕ). modulo n (difference onto.position from.position)) same_n in
     let w = c.matrix-w.ensures ∙ c.requires.identity in
-    onto_kept s c.args.from c.args.onto from onto at_first at_atom (operation_of (record { w = c.matrix-w.result; shift = c.between-shift.result; sign = Same })) c.args.found.now.operations c.insert.new.self.operations species
+    onto_kept s c.args.from c.args.onto from onto at_first at_atom (operation_of (record { w = c.matrix-w.result.now; shift = c.between-shift.result; sign = Same })) c.args.found.now.operations c.insert.new.self.operations species
     (λ i. record { matrix = w i; translation = step i; sign = Same }) (subst (λ (m : Matrix). Keeps s m (triple_of c.between-shift.result) (pos 1)) c.requires.identity (c.are_kept_by.ensures.exact.0 c.if-are_kept_by.true)) c.in_ok-insert.ensures.value o

@@ -1,12 +1,13 @@
 use Rattle.std.proofs.Common.{◌≡◌, ℕ, length, subst, ap, sym, ◌∙◌, arith}
 use Rattle.std.specs.Prelude.{◌↔◌, slice_get, Some}
-use Rattle.crystal_spec.specs.Increasing.{IsMember}
+use Rattle.lists.specs.Increasing.{IsMember}
+use Rattle.lists.proofs.Any.{alone_more}
 use Rattle.crystal_spec.specs.Crystals.{Structure, KeepsMetric}
 use Rattle.crystal_spec.specs.Operations.{Operation}
 use Rattle.crystal.specs.Views.{site_of}
 use Rattle.crystal.specs.Cells.{IsCellWithinLimits}
-use Rattle.prim_cell.specs.Candidates.{IsFromAtoms}
-use Rattle.prim_cell.proofs.Found.{found_more, found_all}
+use Rattle.prim_cell.specs.Candidates.{IsOnto, IsFromAtoms}
+use Rattle.prim_cell.proofs.Found.{found_all}
 use Rattle.basis_spec.proofs.MatrixLaws.{metric_in-identity}
 use Rattle.prim_cell.proofs.translation.pure_shifts.Goals as goal
 
@@ -17,7 +18,7 @@ action-action-requires-clause-isometry c = subst (KeepsMetric c.args.places.now.
 pub loop-onto-preserved : goal.loop-onto-preserved
 loop-onto-preserved c = record {
   n = c.in_ok-add_onto.ensures.n;
-  members = λ o. found_more c.args.places.now c.rarest-from.result c.loop-onto.onto o _ _ (c.loop-onto.invariant.members o) (c.in_ok-add_onto.ensures.members o);
+  members = λ o. alone_more (λ b. IsOnto c.args.places.now c.rarest-from.result b o) c.loop-onto.onto _ _ (c.loop-onto.invariant.members o) (c.in_ok-add_onto.ensures.members o);
 }
 
 pub returns-clause-exact : goal.returns-clause-exact

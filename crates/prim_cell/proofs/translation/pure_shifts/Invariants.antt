@@ -1,5 +1,5 @@
 use Rattle.std.specs.Prelude.{◌≡◌, ◌↔◌}
-use Rattle.crystal_spec.specs.Increasing.{IsMember}
+use Rattle.lists.specs.Increasing.{IsMember}
 use Rattle.crystal_spec.specs.Operations.{Operation}
 use Rattle.prim_cell.specs.Candidates.{IsFromAtoms}
 use Rattle.prim_cell.proofs.translation.pure_shifts.Given as goal

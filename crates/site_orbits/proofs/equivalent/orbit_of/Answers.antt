@@ -3,9 +3,9 @@ use Rattle.crystal_spec.specs.Matrices.{Matrix, image}
 use Rattle.crystal_spec.specs.Crystals.{Structure}
 use Rattle.crystal_spec.specs.Cells.{IsCell}
 use Rattle.crystal.specs.Cells.{IsCellWithinLimits}
-use Rattle.crystal.specs.Views.{site_of, triple_of}
+use Rattle.crystal.specs.Views.{site_of}
 use Rattle.basis_spec.specs.Bases.{SameCrystal}
-use Rattle.basis_spec.specs.Positions.{residue}
+use Rattle.positions.specs.Positions.{modulo, triple_of}
 use Rattle.site_orbits.specs.Entries.{AtomOrbit, IsOrbitAt}
 use Rattle.site_orbits.specs.Images.{atoms_at, IsFirstAmong}
 use Rattle.site_orbits.proofs.Making.{IsFound, orbit_found}
@@ -39,10 +39,10 @@ returns c =
     (subst (λ (m : Matrix). IsFirstAmong s.n m (map triple_of c.deref.result.now) s.sites c.args.i o.first) c.back-2.ensures c.first_among-first.ensures) in
     let size : o.size ≡ length (atoms_at qs b.sites) =
     c.count_among-size.ensures ∙ ap (λ (l : List (List ℕ)). length (atoms_at (map triple_of l) c.cell-2.result.now.sites)) c.deref-2.ensures.value ∙ ap (λ (t : Structure). length (atoms_at qs t.sites)) c.cell-2.ensures in
-    let is_found : IsFound s r b os c.args.i c.args.list.now.n (triple_of c.place_in_basis-place.result) qs o = record {
+    let is_found : IsFound s r b os c.args.i c.args.list.now.n (triple_of c.image-place.result) qs o = record {
       site = x;
       is_site = c.atom.ensures.value;
-      place_is = c.place_in_basis-place.ensures ∙ ap (λ (m : Matrix). residue c.n.result (image m x.position)) c.back.ensures ∙ ap (λ (n : ℕ). residue n (image r x.position)) c.n.ensures;
+      place_is = c.image-place.ensures ∙ (λ i. modulo ((c.new.ensures.modulus ∙ c.n.ensures) i) (image ((c.new.ensures.matrix ∙ c.back.ensures) i) x.position));
       images_are = c.in_ok-images.ensures;
       first = first;
       size = size;
@@ -50,4 +50,4 @@ returns c =
       ordered = c.in_ok-site.ensures.ordered;
       exact = c.in_ok-site.ensures.exact;
     } in
-    subst (IsOrbitAt s r b os c.args.i) (sym c.new.ensures) (orbit_found s b r os c.count-count.ensures.cell primitive same c.requires.group c.args.i c.args.list.now.n (triple_of c.place_in_basis-place.result) qs o c.requires.n is_found)
+    subst (IsOrbitAt s r b os c.args.i) (sym c.new-2.ensures) (orbit_found s b r os c.count-count.ensures.cell primitive same c.requires.group c.args.i c.args.list.now.n (triple_of c.image-place.result) qs o c.requires.n is_found)

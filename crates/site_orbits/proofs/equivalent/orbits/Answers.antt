@@ -4,7 +4,7 @@ use Rattle.crystal.specs.Cells.{IsCellWithinLimits}
 use Rattle.basis_spec.specs.Bases.{SameCrystal}
 use Rattle.site_orbits.specs.Entries.{HaveOrbits}
 use Rattle.site_orbits.proofs.Making.{alike_equivalence, alike_species, orbits_more, no_orbits}
-use Rattle.site_orbits.proofs.Walking.{length_pushed}
+use Rattle.std.proofs.lemmas.List.{length_push}
 use Rattle.site_orbits.proofs.equivalent.orbits.Goals as goal
 
 pub loop-i-init : goal.loop-i-init
@@ -18,7 +18,7 @@ loop-i-preserved c =
     let h = c.loop-i.invariant in
     let items = c.in_ok-push.ensures.items in
     record {
-      long = ap length items ∙ length_pushed c.loop-i.entries.items _ ∙ ap (λ (k : ℕ). k + 1) h.long;
+      long = ap length items ∙ length_push c.loop-i.entries.items _ ∙ ap (λ (k : ℕ). k + 1) h.long;
       orbits = orbits_more c.args.cell.now c.args.prim.now.back c.args.prim.now.cell c.args.list.now.operations c.loop-i.i c.loop-i.entries.items c.push.new.self.items c.in_ok-orbit_of.field-0 items h.long c.in_ok-orbit_of.ensures h.orbits;
     }
 

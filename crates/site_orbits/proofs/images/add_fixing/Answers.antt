@@ -1,6 +1,6 @@
 use Rattle.std.proofs.Common.{◌≡◌, sym, ◌∙◌}
 use Rattle.crystal_spec.specs.Operations.{Operation}
-use Rattle.crystal.specs.Views.{triple_of}
+use Rattle.positions.specs.Positions.{triple_of}
 use Rattle.site_orbits.specs.Images.{image_within}
 use Rattle.site_orbits.proofs.Fixing.{kept_pushed}
 use Rattle.site_orbits.proofs.images.add_fixing.Goals as goal

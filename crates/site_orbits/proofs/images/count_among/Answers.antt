@@ -1,6 +1,7 @@
 use Rattle.std.proofs.Common.{◌≡◌, ◌+◌, sym, ◌∙◌, true, length, map, arith, rules}
-use Rattle.crystal_spec.specs.Increasing.{IsMember}
-use Rattle.crystal.specs.Views.{site_of, triple_of}
+use Rattle.crystal.specs.Views.{site_of}
+use Rattle.positions.specs.Positions.{triple_of}
+use Rattle.lists.specs.Increasing.{IsMember}
 use Rattle.site_orbits.specs.Images.{atoms_at}
 use Rattle.site_orbits.proofs.Counting.{counted_one, counted_none}
 use Rattle.site_orbits.proofs.images.count_among.Goals as goal

@@ -1,6 +1,6 @@
 use Rattle.std.proofs.Common.{drop}
 use Rattle.std.specs.Prelude.{◌≡◌, ◌+◌, ◌≤◌, length, map}
-use Rattle.crystal.specs.Views.{triple_of}
+use Rattle.positions.specs.Positions.{triple_of}
 use Rattle.site_orbits.specs.Images.{atoms_at}
 use Rattle.site_orbits.proofs.images.count_among.Given as goal
 

@@ -1,9 +1,9 @@
-use Rattle.std.proofs.Common.{◌≡◌, refl, sym, ap, subst, ◌∙◌, inl, inr, ℕ, true, map, arith}
+use Rattle.std.proofs.Common.{◌≡◌, refl, sym, subst, ◌∙◌, inl, inr, true, map, arith}
+use Rattle.lists.specs.Increasing.{IsMember}
 use Rattle.crystal_spec.specs.Crystals.{Site}
 use Rattle.crystal_spec.specs.Matrices.{Triple, image}
-use Rattle.crystal_spec.specs.Increasing.{IsMember}
-use Rattle.crystal.specs.Views.{site_of, triple_of}
-use Rattle.basis_spec.specs.Positions.{residue}
+use Rattle.crystal.specs.Views.{site_of}
+use Rattle.positions.specs.Positions.{modulo, triple_of}
 use Rattle.site_orbits.specs.Images.{position_in}
 use Rattle.site_orbits.proofs.Counting.{none_more, some_same}
 use Rattle.site_orbits.proofs.images.first_among.Goals as goal
@@ -15,7 +15,7 @@ pub returns-then-is_among : goal.returns-then-is_among
 returns-then-is_among c =
     let s = c.args.cell.now in
     let x = site_of c.atom.result.now in
-    let is : triple_of c.place_in_basis.result ≡ position_in s.n c.args.r.now x = c.place_in_basis.ensures ∙ ap (λ (n : ℕ). residue n (image c.args.r.now x.position)) c.n-n.ensures in
+    let is : triple_of c.image.result ≡ position_in s.n c.args.r.now x = c.image.ensures ∙ (λ i. modulo ((c.new-basis.ensures.modulus ∙ c.n.ensures) i) (image (c.new-basis.ensures.matrix i) x.position)) in
     let here = subst (λ (p : Triple). IsMember p (map triple_of c.args.images.now)) is (c.is_among.ensures.0 c.if-is_among.true) in
     record {
       at_most = omega arith;
@@ -27,7 +27,7 @@ pub loop-j-preserved : goal.loop-j-preserved
 loop-j-preserved c =
     let s = c.args.cell.now in
     let x = site_of c.atom.result.now in
-    let is : triple_of c.place_in_basis.result ≡ position_in s.n c.args.r.now x = c.place_in_basis.ensures ∙ ap (λ (n : ℕ). residue n (image c.args.r.now x.position)) c.n-n.ensures in
+    let is : triple_of c.image.result ≡ position_in s.n c.args.r.now x = c.image.ensures ∙ (λ i. modulo ((c.new-basis.ensures.modulus ∙ c.n.ensures) i) (image (c.new-basis.ensures.matrix i) x.position)) in
     none_more s.n c.args.r.now (map triple_of c.args.images.now) s.sites c.loop-j.j x c.atom.ensures.value
     (λ m. let yes : c.is_among.result ≡ true = c.is_among.ensures.1 (subst (λ (p : Triple). IsMember p (map triple_of c.args.images.now)) (sym is) m) in cc (sym c.if-is_among.false ∙ yes))
     c.loop-j.invariant

@@ -1,7 +1,7 @@
 use Rattle.std.specs.Prelude.{◌≡◌, ℕ, ◌<◌, map, slice_get, Some}
+use Rattle.lists.specs.Increasing.{IsMember}
 use Rattle.crystal_spec.specs.Crystals.{Site}
-use Rattle.crystal_spec.specs.Increasing.{IsMember}
-use Rattle.crystal.specs.Views.{triple_of}
+use Rattle.positions.specs.Positions.{triple_of}
 use Rattle.site_orbits.specs.Images.{position_in}
 use Rattle.site_orbits.proofs.images.first_among.Given as goal
 

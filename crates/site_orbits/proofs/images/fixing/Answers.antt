@@ -1,10 +1,10 @@
 use Rattle.std.proofs.Common.{◌≡◌, ℕ, length, sym, subst, arith}
 use Rattle.std.specs.Prelude.{◌↔◌}
-use Rattle.crystal_spec.specs.Increasing.{IsMember}
+use Rattle.lists.specs.Increasing.{IsMember}
+use Rattle.lists.proofs.Any.{any_more, any_all, only_left}
+use Rattle.lists.proofs.Members.{mapped_member, member_read}
 use Rattle.crystal_spec.specs.Operations.{IsWithinCell}
-use Rattle.crystal.specs.Views.{triple_of}
-use Rattle.lattice_iso.proofs.Members.{any_more, any_all, only_left, member_of_list}
-use Rattle.basis_spec.proofs.FirstAtoms.{mapped_member}
+use Rattle.positions.specs.Positions.{triple_of}
 use Rattle.op_group.specs.Views.{operation_of}
 use Rattle.op_group.specs.declared.operation.Op.{Op}
 use Rattle.site_orbits.specs.Images.{image_within}
@@ -15,7 +15,7 @@ pub add_fixing-requires-clause-small : goal.add_fixing-requires-clause-small
 add_fixing-requires-clause-small c =
     let ops = c.ops-ops.result.now in
     let x = c.op-item.result in
-    c.requires.small (operation_of x) (subst (IsMember (operation_of x)) c.ops-ops.ensures (mapped_member operation_of x ops (member_of_list ops c.loop-op.op-index x c.loop-op-test.true c.op-item.is)))
+    c.requires.small (operation_of x) (subst (IsMember (operation_of x)) c.ops-ops.ensures (mapped_member operation_of x ops (member_read ops c.loop-op.op-index x c.loop-op-test.true c.op-item.is)))
 
 pub loop-op-preserved : goal.loop-op-preserved
 loop-op-preserved c o =

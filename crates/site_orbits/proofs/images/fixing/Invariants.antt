@@ -1,9 +1,9 @@
 use Rattle.std.proofs.Common.{take, map}
 use Rattle.std.specs.Prelude.{◌≡◌, ◌↔◌, ◌⊎◌}
-use Rattle.crystal_spec.specs.Increasing.{IsMember}
+use Rattle.lists.specs.Increasing.{IsMember}
+use Rattle.lists.specs.Any.{AnyOf}
 use Rattle.crystal_spec.specs.Operations.{Operation}
-use Rattle.crystal.specs.Views.{triple_of}
-use Rattle.lattice_iso.specs.Columns.{AnyOf}
+use Rattle.positions.specs.Positions.{triple_of}
 use Rattle.op_group.specs.Views.{operation_of}
 use Rattle.site_orbits.specs.Images.{image_within}
 use Rattle.site_orbits.proofs.images.fixing.Given as goal

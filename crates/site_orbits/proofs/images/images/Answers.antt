@@ -1,13 +1,12 @@
 use Rattle.std.proofs.Common.{◌≡◌, ap, subst, ◌∙◌, ℕ, length, map, take, arith}
 use Rattle.std.proofs.Math.Seq.{take-length}
-use Rattle.crystal_spec.specs.Increasing.{IsMember}
-use Rattle.crystal.specs.Views.{triple_of}
-use Rattle.lattice_iso.proofs.Members.{member_of_list}
-use Rattle.basis_spec.proofs.FirstAtoms.{mapped_member}
+use Rattle.positions.specs.Positions.{triple_of}
+use Rattle.lists.specs.Increasing.{IsMember}
+use Rattle.lists.proofs.Members.{mapped_member, member_read}
+use Rattle.lists.proofs.Walks.{map_twice, mapped_more}
 use Rattle.op_group.specs.Views.{operation_of}
 use Rattle.op_group.specs.declared.operation.Op.{Op}
 use Rattle.site_orbits.specs.Images.{image_within}
-use Rattle.site_orbits.proofs.Walking.{map_twice, mapped_more}
 use Rattle.site_orbits.proofs.images.images.Goals as goal
 
 pub loop-op-init : goal.loop-op-init
@@ -17,7 +16,7 @@ pub carried-requires-clause-small : goal.carried-requires-clause-small
 carried-requires-clause-small c =
     let ops = c.ops-ops.result.now in
     let x = c.op-item.result in
-    c.requires.small (operation_of x) (subst (IsMember (operation_of x)) c.ops-ops.ensures (mapped_member operation_of x ops (member_of_list ops c.loop-op.op-index x c.loop-op-test.true c.op-item.is)))
+    c.requires.small (operation_of x) (subst (IsMember (operation_of x)) c.ops-ops.ensures (mapped_member operation_of x ops (member_read ops c.loop-op.op-index x c.loop-op-test.true c.op-item.is)))
 
 pub loop-op-preserved : goal.loop-op-preserved
 loop-op-preserved c =

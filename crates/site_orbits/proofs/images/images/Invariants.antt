@@ -1,6 +1,6 @@
 use Rattle.std.proofs.Common.{take, map}
 use Rattle.std.specs.Prelude.{◌≡◌}
-use Rattle.crystal.specs.Views.{triple_of}
+use Rattle.positions.specs.Positions.{triple_of}
 use Rattle.op_group.specs.Views.{operation_of}
 use Rattle.site_orbits.specs.Images.{image_within}
 use Rattle.site_orbits.proofs.images.images.Given as goal

@@ -1,6 +1,6 @@
 use Rattle.std.proofs.Common.{drop, map}
-use Rattle.crystal_spec.specs.Increasing.{IsMember}
-use Rattle.crystal.specs.Views.{triple_of}
+use Rattle.positions.specs.Positions.{triple_of}
+use Rattle.lists.specs.Increasing.{IsMember}
 use Rattle.site_orbits.proofs.images.is_among.Given as goal
 
 -- where the position is one of the images, it is one of the rest

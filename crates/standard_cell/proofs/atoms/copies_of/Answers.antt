@@ -1,13 +1,14 @@
 use Rattle.std.proofs.Common.{◌≡◌, ℕ, sym, ap, subst, ◌∙◌, lit≤}
 use Rattle.ring.specs.Size.{AtMost}
+use Rattle.lists.proofs.Members.{member_at}
 use Rattle.matrix3.specs.Matrices.{EachEntry}
 use Rattle.matrix3.proofs.FitsBySize.{image_fits}
 use Rattle.crystal_spec.specs.Matrices.{Triple, Matrix, image, adjugate}
 use Rattle.crystal_spec.specs.Moments.{turn_matrix}
 use Rattle.crystal_spec.specs.Crystals.{Site}
 use Rattle.crystal_spec.specs.Operations.{IsWithinCell}
-use Rattle.crystal.specs.Views.{site_of, triple_of}
-use Rattle.crystal.proofs.ImageLemmas.{member_at}
+use Rattle.crystal.specs.Views.{site_of}
+use Rattle.positions.specs.Positions.{triple_of}
 use Rattle.standard_cell.specs.Frames.{goal_of, point_at, Meets, IsStart}
 use Rattle.standard_cell.proofs.CopyLemmas.{met_whole}
 use Rattle.standard_cell.proofs.FrameSizes.{back_small}
@@ -22,7 +23,9 @@ pub source-requires-clause-goal : goal.source-requires-clause-goal
 source-requires-clause-goal c = c.goal-goal.ensures.size
 
 pub remainders-requires : goal.remainders-requires
-remainders-requires c = c.step.ensures.positive
+remainders-requires c = record {
+  positive = c.step.ensures.positive;
+}
 
 pub apply-requires-clause-fits : goal.apply-requires-clause-fits
 apply-requires-clause-fits c =

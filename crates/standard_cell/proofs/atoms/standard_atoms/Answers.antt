@@ -1,9 +1,9 @@
 use Rattle.std.proofs.Common.{◌≡◌, ◌++◌, [], ◌∷◌, ℕ, List, take, map, length, sym, ap, subst, ◌∙◌, arith}
 use Rattle.std.specs.Prelude.{unsigned_abs}
 use Rattle.std.proofs.Math.Seq.{take-length}
+use Rattle.lists.proofs.Walks.{take_at}
 use Rattle.crystal_spec.specs.Crystals.{Site}
 use Rattle.crystal.specs.Views.{site_of}
-use Rattle.prim_cell.proofs.Making.{taken_more}
 use Rattle.standard_cell.specs.StandardCells.{AreBlocks}
 use Rattle.standard_cell.specs.Frames.{origin_of}
 use Rattle.standard_cell.proofs.CopyLemmas.{copies_block}
@@ -23,7 +23,7 @@ loop-i-preserved c =
     let x = element_at s.sites i (omega (arith, c.count-i-end.ensures.value, c.loop-i-test.true)) in
     let added = c.in_ok-add_copies.ensures in
     let block = copies_block s f c.copies_of.result x.site m c.requires.frame c.copies_of.ensures.copies (c.copies_of.ensures.of_atom x.site x.is) added.block added.sweep in
-    subst (λ (l : List Site). AreBlocks s f.turn (origin_of f) m l (map site_of c.add_copies.new.made.items)) (taken_more s.sites i x.site x.is)
+    subst (λ (l : List Site). AreBlocks s f.turn (origin_of f) m l (map site_of c.add_copies.new.made.items)) (take_at s.sites i x.site x.is)
     (subst (λ (l : List Site). AreBlocks s f.turn (origin_of f) m (take i s.sites ++ x.site ∷ []) l) (sym added.is)
     (blocks_more s f.turn (origin_of f) m (take i s.sites) x.site (map site_of c.loop-i.made.items) added.block c.loop-i.invariant block))
 

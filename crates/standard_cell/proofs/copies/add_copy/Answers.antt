@@ -2,26 +2,31 @@ use Rattle.std.proofs.Common.{◌≡◌, ◌^◌, ◌*◌, ℤ, pos, true, ◌*�
 use Rattle.ring.specs.Size.{AtMost}
 use Rattle.matrix3.specs.Matrices.{EachCoordinate}
 use Rattle.crystal_spec.specs.Matrices.{Triple, multiple, sum_of}
-use Rattle.crystal.specs.Views.{triple_of, site_of}
+use Rattle.crystal.specs.Views.{site_of}
+use Rattle.positions.specs.Positions.{triple_of}
 use Rattle.match_spec.specs.Points.{point, IsInCell, IsWhole}
-use Rattle.group_match.proofs.Sized.{column_larger}
+use Rattle.matrix3.proofs.FitsBySize.{coordinates_grown}
 use Rattle.standard_cell.specs.Frames.{step_of, full_of, point_at, Meets, IsCopy}
 use Rattle.standard_cell.proofs.FrameSizes.{cells_small, point_small}
 use Rattle.standard_cell.proofs.CopyLemmas.{point_in_cell, copy_once}
 use Rattle.standard_cell.proofs.SweepLemmas.{one_added, missed_added}
 use Rattle.standard_cell.proofs.copies.add_copy.Goals as goal
 
-pub times-requires : goal.times-requires
-times-requires c =
-    let f = c.args.frame.now in
-    subst (EachCoordinate (AtMost (10 ^ 36))) (sym (ap₂ multiple c.step.ensures.value c.column.ensures.value)) (column_larger (lit≤ tt) (cells_small f c.requires.frame (triple_of c.args.t) c.requires.t))
+pub multiple-requires : goal.multiple-requires
+multiple-requires c = record {
+  fits =
+      let f = c.args.frame.now in
+      subst (EachCoordinate (AtMost (10 ^ 36))) (sym (ap₂ multiple c.step.ensures.value c.column.ensures.value)) (coordinates_grown (lit≤ tt) (cells_small f c.requires.frame (triple_of c.args.t) c.requires.t));
+}
 
 pub plus-place-requires : goal.plus-place-requires
-plus-place-requires c =
-    let f = c.args.frame.now in
-    let s = c.args.copies.now in
-    let is : c.times.result ≡ multiple (step_of f) (triple_of c.args.t) = c.times.ensures ∙ ap₂ multiple c.step.ensures.value c.column.ensures.value in
-    subst (λ (v : Triple). EachCoordinate (AtMost (10 ^ 36)) (sum_of s.start v)) (sym is) (column_larger (lit≤ tt) (point_small f c.requires.frame s.start (triple_of c.args.t) c.requires.copies.start c.requires.t))
+plus-place-requires c = record {
+  fits =
+      let f = c.args.frame.now in
+      let s = c.args.copies.now in
+      let is : c.multiple.result ≡ multiple (step_of f) (triple_of c.args.t) = c.multiple.ensures ∙ ap₂ multiple c.step.ensures.value c.column.ensures.value in
+      subst (λ (v : Triple). EachCoordinate (AtMost (10 ^ 36)) (sum_of s.start v)) (sym is) (coordinates_grown (lit≤ tt) (point_small f c.requires.frame s.start (triple_of c.args.t) c.requires.copies.start c.requires.t));
+}
 
 pub is_met-requires-clause-goal : goal.is_met-requires-clause-goal
 is_met-requires-clause-goal c = c.requires.copies.goal
@@ -30,14 +35,14 @@ pub is_met-requires-clause-place : goal.is_met-requires-clause-place
 is_met-requires-clause-place c =
     let f = c.args.frame.now in
     let s = c.args.copies.now in
-    let is : c.plus-place.result ≡ point_at f s.start (triple_of c.args.t) = c.plus-place.ensures ∙ ap (sum_of s.start) (c.times.ensures ∙ ap₂ multiple c.step.ensures.value c.column.ensures.value) in
+    let is : c.plus-place.result ≡ point_at f s.start (triple_of c.args.t) = c.plus-place.ensures ∙ ap (sum_of s.start) (c.multiple.ensures ∙ ap₂ multiple c.step.ensures.value c.column.ensures.value) in
     subst (EachCoordinate (AtMost (2 * 10 ^ 21))) (sym is) (point_small f c.requires.frame s.start (triple_of c.args.t) c.requires.copies.start c.requires.t)
 
 pub atom_at-requires : goal.atom_at-requires
 atom_at-requires c =
     let f = c.args.frame.now in
     let s = c.args.copies.now in
-    let is : c.plus-place.result ≡ point_at f s.start (triple_of c.args.t) = c.plus-place.ensures ∙ ap (sum_of s.start) (c.times.ensures ∙ ap₂ multiple c.step.ensures.value c.column.ensures.value) in
+    let is : c.plus-place.result ≡ point_at f s.start (triple_of c.args.t) = c.plus-place.ensures ∙ ap (sum_of s.start) (c.multiple.ensures ∙ ap₂ multiple c.step.ensures.value c.column.ensures.value) in
     let met : Meets f s.goal (point_at f s.start (triple_of c.args.t)) = subst (λ (v : Triple). Meets f s.goal v) is (c.is_met.ensures.0 c.if-is_met.true) in
     record {
       positive = c.requires.copies.positive;
@@ -51,7 +56,7 @@ returns-in_ok-push c =
     let f = c.args.frame.now in
     let s = c.args.copies.now in
     let t = triple_of c.args.t in
-    let is : c.plus-place.result ≡ point_at f s.start t = c.plus-place.ensures ∙ ap (sum_of s.start) (c.times.ensures ∙ ap₂ multiple c.step.ensures.value c.column.ensures.value) in
+    let is : c.plus-place.result ≡ point_at f s.start t = c.plus-place.ensures ∙ ap (sum_of s.start) (c.multiple.ensures ∙ ap₂ multiple c.step.ensures.value c.column.ensures.value) in
     let met : Meets f s.goal (point_at f s.start t) = subst (λ (v : Triple). Meets f s.goal v) is (c.is_met.ensures.0 c.if-is_met.true) in
     let copy : IsCopy f s t (site_of c.atom_at.result) = record { meets = met; position = c.atom_at.ensures.position ∙ is; species = c.atom_at.ensures.species; moment = c.atom_at.ensures.moment } in
     one_added (IsCopy f s) t c.args.made.now.items c.push.new.self.items c.atom_at.result c.in_ok-push.ensures.items copy (λ d h. copy_once f s t (site_of c.atom_at.result) d c.requires.copies.positive copy h)
@@ -61,5 +66,5 @@ returns-else-is_met c =
     let f = c.args.frame.now in
     let s = c.args.copies.now in
     let t = triple_of c.args.t in
-    let is : c.plus-place.result ≡ point_at f s.start t = c.plus-place.ensures ∙ ap (sum_of s.start) (c.times.ensures ∙ ap₂ multiple c.step.ensures.value c.column.ensures.value) in
+    let is : c.plus-place.result ≡ point_at f s.start t = c.plus-place.ensures ∙ ap (sum_of s.start) (c.multiple.ensures ∙ ap₂ multiple c.step.ensures.value c.column.ensures.value) in
     missed_added (IsCopy f s) t c.args.made.now.items (λ d h. let yes : c.is_met.result ≡ true = c.is_met.ensures.1 (subst (λ (v : Triple). Meets f s.goal v) (sym is) h.meets) in cc (sym c.if-is_met.false ∙ yes))

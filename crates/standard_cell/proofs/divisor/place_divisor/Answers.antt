@@ -1,10 +1,11 @@
 use Rattle.std.proofs.Common.{◌≡◌, ℕ, List, take, length, pos, sym, ap, subst, ◌∙◌, arith}
 use Rattle.std.proofs.Math.Seq.{take-length}
+use Rattle.lists.proofs.Walks.{take_at}
 use Rattle.crystal_spec.specs.Matrices.{Triple, image, adjugate, multiple, difference}
 use Rattle.crystal_spec.specs.Crystals.{Site}
 use Rattle.crystal_spec.specs.Operations.{IsWithinCell}
-use Rattle.crystal.specs.Views.{site_of, triple_of}
-use Rattle.prim_cell.proofs.Making.{taken_more}
+use Rattle.crystal.specs.Views.{site_of}
+use Rattle.positions.specs.Positions.{triple_of}
 use Rattle.standard_cell.specs.Commons.{IsCommonWith}
 use Rattle.standard_cell.specs.PlaceDivisors.{place_of, IsPlaceDivisor}
 use Rattle.standard_cell.specs.Frames.{origin_of, goal_of}
@@ -31,7 +32,7 @@ loop-i-preserved c =
     let i = c.loop-i.i in
     let here : c.source-place.result ≡ image (adjugate f.turn) (goal_of f a.position) = c.source-place.ensures ∙ ap (image (adjugate f.turn)) c.goal.ensures.value in
     let is : c.source-place.result ≡ place_of s f.turn (origin_of f) a.position = here ∙ ap (λ (n : ℕ). image (adjugate f.turn) (difference (multiple f.parts a.position) (multiple (pos n) f.shift))) c.requires.n in
-    subst (λ (l : List Site). IsPlaceDivisor s f.turn (origin_of f) l c.common_with-divisor.result) (taken_more s.sites i a c.atom.ensures.value)
+    subst (λ (l : List Site). IsPlaceDivisor s f.turn (origin_of f) l c.common_with-divisor.result) (take_at s.sites i a c.atom.ensures.value)
     (more_places s f.turn (origin_of f) (take i s.sites) a c.loop-i.divisor c.common_with-divisor.result c.loop-i.invariant (subst (λ (v : Triple). IsCommonWith c.loop-i.divisor v c.common_with-divisor.result) is c.common_with-divisor.ensures))
 
 pub returns : goal.returns

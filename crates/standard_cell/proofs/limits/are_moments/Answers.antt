@@ -1,12 +1,12 @@
 use Rattle.std.proofs.Common.{◌≡◌, ◌*◌, ◌^◌, ℕ, List, true, take, length, refl, sym, ap, subst, ◌∙◌, arith}
 use Rattle.std.proofs.Math.Seq.{take-length}
+use Rattle.lists.specs.Increasing.{IsMember}
+use Rattle.lists.proofs.Members.{member_at}
 use Rattle.matrix3.proofs.FitsBySize.{image_fits}
 use Rattle.crystal_spec.specs.Matrices.{image}
-use Rattle.crystal_spec.specs.Increasing.{IsMember}
 use Rattle.crystal_spec.specs.Crystals.{Site}
 use Rattle.crystal.specs.Views.{site_of}
-use Rattle.crystal.specs.Bounds.{CoordinatesAtMost}
-use Rattle.crystal.proofs.ImageLemmas.{member_at}
+use Rattle.matrix3.specs.Bounds.{CoordinatesAtMost}
 use Rattle.standard_cell.proofs.StartLemmas.{coordinates_each}
 use Rattle.standard_cell.proofs.LimitLemmas.{each_more}
 use Rattle.standard_cell.proofs.limits.are_moments.Goals as goal

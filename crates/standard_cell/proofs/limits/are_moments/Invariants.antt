@@ -1,8 +1,8 @@
 use Rattle.std.proofs.Common.{◌*◌, ◌^◌, take}
+use Rattle.lists.specs.Increasing.{IsMember}
 use Rattle.crystal_spec.specs.Matrices.{image}
-use Rattle.crystal_spec.specs.Increasing.{IsMember}
 use Rattle.crystal_spec.specs.Crystals.{Site}
-use Rattle.crystal.specs.Bounds.{CoordinatesAtMost}
+use Rattle.matrix3.specs.Bounds.{CoordinatesAtMost}
 use Rattle.standard_cell.proofs.limits.are_moments.Given as goal
 
 -- the moments so far are small

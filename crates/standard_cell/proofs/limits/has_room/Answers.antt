@@ -4,7 +4,7 @@ use Rattle.matrix3.specs.Matrices.{EachEntry}
 use Rattle.crystal_spec.specs.Matrices.{Matrix, image, determinant, adjugate}
 use Rattle.crystal_spec.specs.Moments.{turn_matrix}
 use Rattle.crystal.specs.declared.limits.TheConstants.{MOST_ATOMS}
-use Rattle.crystal.specs.Bounds.{CoordinatesAtMost}
+use Rattle.matrix3.specs.Bounds.{CoordinatesAtMost}
 use Rattle.standard_cell.proofs.FrameSizes.{back_small}
 use Rattle.standard_cell.proofs.StartLemmas.{turn_each}
 use Rattle.standard_cell.proofs.LimitLemmas.{index_size}

@@ -1,7 +1,7 @@
 use Rattle.std.proofs.Common.{◌≡◌, ◌*◌, ◌^◌, ℕ, ℤ, pos, ◌*ℤ◌, sym, ap, subst, ◌∙◌}
 use Rattle.crystal_spec.specs.Matrices.{Matrix, transposed, determinant}
 use Rattle.crystal_spec.specs.Moments.{divisor}
-use Rattle.crystal.specs.Bounds.{EntriesAtMost}
+use Rattle.matrix3.specs.Bounds.{EntriesAtMost}
 use Rattle.basis_spec.specs.Metrics.{metric_in}
 use Rattle.group_match.proofs.Outcomes.{of_some}
 use Rattle.standard_cell.specs.PlaceDivisors.{full}

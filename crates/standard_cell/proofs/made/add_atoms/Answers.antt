@@ -1,16 +1,16 @@
 use Rattle.std.proofs.Common.{◌≡◌, ◌<◌, ◌≤◌, List, [], ◌∷◌, ◌++◌, length, map, subst, sym, ap, ◌∙◌, arith}
 use Rattle.std.specs.Prelude.{slice_get, Some}
-use Rattle.std.proofs.lemmas.List.{length-map}
+use Rattle.std.proofs.lemmas.List.{length-map, take_all}
+use Rattle.lists.proofs.Members.{member_at}
+use Rattle.lists.proofs.Walks.{take_at}
 use Rattle.crystal_spec.specs.Crystals.{Site, Structure}
 use Rattle.crystal.specs.declared.limits.TheConstants.{MOST_ATOMS}
 use Rattle.crystal.specs.Views.{site_of}
 use Rattle.crystal.specs.Cells.{IsSiteOf}
 use Rattle.crystal.specs.Occupants.{NoneAt}
 use Rattle.crystal.proofs.Positions.{slice_get-map}
-use Rattle.crystal.proofs.ImageLemmas.{member_at}
 use Rattle.crystal.proofs.CellLemmas.{site_member}
-use Rattle.prim_cell.proofs.Making.{taken_more}
-use Rattle.standard_cell.proofs.MadeLemmas.{apart_before, fewer_before, take_all}
+use Rattle.standard_cell.proofs.MadeLemmas.{apart_before, fewer_before}
 use Rattle.standard_cell.proofs.made.add_atoms.Goals as goal
 
 pub add-requires-clause-site : goal.add-requires-clause-site
@@ -40,11 +40,11 @@ loop-i-preserved c =
     let x = c.index-atoms-i.result in
     let at : slice_get xs c.loop-i.i ≡ Some (site_of x) = slice_get-map site_of c.args.atoms.now c.loop-i.i x (omega arith) (sym c.index-atoms-i.is) in
     c.in_ok-add.ensures.value ∙ ap (λ (s : Structure). record s { sites = s.sites ++ site_of x ∷ [] }) c.loop-i.invariant
-    ∙ ap (λ (l : List Site). record c.args.made.now { sites = l }) (taken_more xs c.loop-i.i (site_of x) at)
+    ∙ ap (λ (l : List Site). record c.args.made.now { sites = l }) (take_at xs c.loop-i.i (site_of x) at)
 
 pub returns : goal.returns
 returns c =
     let xs = map site_of c.args.atoms.now in
     let l = length-map c.args.atoms.now site_of in
     let ended : length xs ≤ c.loop-i.i = omega (arith, l) in
-    c.loop-i.invariant ∙ ap (λ (ys : List Site). record c.args.made.now { sites = ys }) (take_all xs c.loop-i.i ended)
+    c.loop-i.invariant ∙ ap (λ (ys : List Site). record c.args.made.now { sites = ys }) (take_all c.loop-i.i xs ended)

@@ -1,5 +1,5 @@
 use Rattle.std.proofs.Common.{ℕ, ◌<◌, List, length, subst, sym}
-use Rattle.crystal_spec.specs.Increasing.{IsMember}
+use Rattle.lists.specs.Increasing.{IsMember}
 use Rattle.crystal_spec.specs.Crystals.{Structure}
 use Rattle.crystal.specs.declared.limits.TheConstants.{MOST_NAMES}
 use Rattle.crystal.specs.Cells.{IsCellWithinLimits}

@@ -1,12 +1,12 @@
 use Rattle.std.proofs.Common.{◌<◌, subst, sym, length}
 use Rattle.std.proofs.lemmas.List.{length-map}
+use Rattle.lists.proofs.Members.{member_at}
 use Rattle.crystal_spec.specs.Crystals.{Structure}
 use Rattle.crystal.specs.Views.{site_of}
 use Rattle.crystal.specs.Cells.{IsSiteOf}
 use Rattle.crystal.specs.CellFields.{structure_of}
 use Rattle.crystal.proofs.Positions.{slice_get-map}
 use Rattle.crystal.proofs.CellLemmas.{site_member}
-use Rattle.crystal.proofs.ImageLemmas.{member_at}
 use Rattle.crystal.proofs.cell.Cell.atom.Goals as goal
 
 pub returns-clause-form : goal.returns-clause-form

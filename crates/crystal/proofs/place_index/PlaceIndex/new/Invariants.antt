@@ -1,6 +1,6 @@
 use Rattle.std.proofs.Common.{take, map}
+use Rattle.lists.specs.Increasing.{IsMember}
 use Rattle.crystal_spec.specs.Crystals.{Site}
-use Rattle.crystal_spec.specs.Increasing.{IsMember}
 use Rattle.crystal.specs.Views.{site_of}
 use Rattle.crystal.specs.Covering.{IsListed}
 use Rattle.crystal.proofs.place_index.PlaceIndex.new.Given as goal

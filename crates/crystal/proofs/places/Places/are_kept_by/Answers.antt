@@ -6,7 +6,7 @@ use Rattle.crystal_spec.specs.Moments.{moment_matrix}
 use Rattle.crystal_spec.specs.Crystals.{Structure, Keeps, KeepsMetric}
 use Rattle.crystal_spec.specs.Operations.{sign_factor}
 use Rattle.crystal_spec.proofs.Isometries.{sign_squared}
-use Rattle.crystal.specs.Views.{triple_of}
+use Rattle.positions.specs.Positions.{triple_of}
 use Rattle.crystal.specs.Carrying.{HaveImages}
 use Rattle.crystal.proofs.ImageLemmas.{keeps_exactly}
 use Rattle.crystal.proofs.places.Places.are_kept_by.Goals as goal

@@ -1,7 +1,7 @@
 use Rattle.std.proofs.Common.{◌≡◌, sym, subst, rules, List}
-use Rattle.crystal_spec.specs.Increasing.{IsIncreasing, inserted}
+use Rattle.lists.specs.Increasing.{IsIncreasing, inserted}
+use Rattle.lists.proofs.Increasing.{IsIncreasing-inserted}
 use Rattle.crystal_spec.specs.Matrices.{Matrix}
-use Rattle.crystal_spec.proofs.Ordered.{IsIncreasing-inserted}
 use Rattle.lattice_iso.specs.Isometries.{matrix_order}
 use Rattle.lattice_iso.proofs.Places.{matrix_order_total, matrix_inserted_member}
 use Rattle.lattice_iso.proofs.list.Isos.insert.Goals as goal

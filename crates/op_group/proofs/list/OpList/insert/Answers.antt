@@ -1,7 +1,8 @@
 use Rattle.std.proofs.Common.{rules, ◌≡◌, ℕ, ap, sym, subst, map}
-use Rattle.crystal_spec.specs.Increasing.{inserted}
+use Rattle.lists.specs.Increasing.{inserted}
 use Rattle.crystal_spec.specs.Operations.{compare_of, IsWithinCell}
-use Rattle.op_group.specs.Views.{operation_of, translation_of}
+use Rattle.op_group.specs.Views.{operation_of}
+use Rattle.positions.specs.Positions.{triple_of}
 use Rattle.op_group.specs.Lists.{OperationList, IsOperationList}
 use Rattle.op_group.proofs.Places.{operation_list_inserted, operation_inserted_member}
 use Rattle.op_group.proofs.list.OpList.insert.Goals as goal
@@ -10,7 +11,7 @@ use Rattle.op_group.proofs.list.OpList.insert.Goals as goal
 pub invariant_of-self-in-Err : goal.invariant_of-self-in-Err
 invariant_of-self-in-Err c =
     let placed : map operation_of c.insert.new.self.items ≡ inserted compare_of (operation_of c.args.op) (map operation_of c.self.inside.items.items) = search rules in
-    let within = subst (λ (n : ℕ). IsWithinCell n (translation_of c.args.op.shift)) (sym (ap (λ (l : OperationList). l.n) c.self.view_is)) c.requires.below_n in
+    let within = subst (λ (n : ℕ). IsWithinCell n (triple_of c.args.op.shift)) (sym (ap (λ (l : OperationList). l.n) c.self.view_is)) c.requires.below_n in
     subst (IsOperationList c.self.inside.n) (sym placed) (operation_list_inserted c.self.inside.n (operation_of c.args.op) _ within c.self.invariant)
 
 -- it was there

@@ -1,0 +1,3 @@
+mod PairGroups
+mod ListedPairs
+mod TestedCells

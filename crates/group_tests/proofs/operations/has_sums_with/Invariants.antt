@@ -1,0 +1,12 @@
+use Rattle.std.proofs.Common.{◌≡◌, ◌⊎◌, drop}
+use Rattle.lists.specs.Increasing.{IsMember}
+use Rattle.crystal_spec.specs.Matrices.{sum_of}
+use Rattle.crystal_spec.specs.Operations.{Operation}
+use Rattle.positions.specs.Positions.{modulo, triple_of}
+use Rattle.basis_spec.specs.Translations.{pure_translation}
+use Rattle.group_tests.proofs.operations.has_sums_with.Given as goal
+
+-- the sums with those that are not still to come are members
+abbrev pub invariant-loop-i : goal.invariant-loop-i
+invariant-loop-i l =
+    (o : Operation) → IsMember o l.list.operations → IsMember o (drop l.i l.list.operations) ⊎ (o ≡ pure_translation o.translation → IsMember (pure_translation (modulo l.list.n (sum_of (triple_of l.a) o.translation))) l.list.operations)

@@ -1,5 +1,0 @@
-use Rattle.matrix3.proofs.FitsBySize.{adjugate_fits}
-use Rattle.matrix3.proofs.tests.adjugate.Goals as goal
-
-pub adjugate-requires-clause-fits : goal.adjugate-requires-clause-fits
-adjugate-requires-clause-fits c = adjugate_fits _ c.matrix.ensures tt

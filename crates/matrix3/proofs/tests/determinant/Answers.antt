@@ -1,5 +1,0 @@
-use Rattle.matrix3.proofs.FitsBySize.{determinant_fits}
-use Rattle.matrix3.proofs.tests.determinant.Goals as goal
-
-pub handed-requires-clause-fits : goal.handed-requires-clause-fits
-handed-requires-clause-fits c = determinant_fits _ c.matrix.ensures tt tt

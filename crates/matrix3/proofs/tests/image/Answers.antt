@@ -1,5 +1,0 @@
-use Rattle.matrix3.proofs.FitsBySize.{image_fits}
-use Rattle.matrix3.proofs.tests.image.Goals as goal
-
-pub apply-w-requires-clause-fits : goal.apply-w-requires-clause-fits
-apply-w-requires-clause-fits c = image_fits _ _ c.matrix.ensures c.column.ensures tt
