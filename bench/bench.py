@@ -2,12 +2,14 @@
 """Times `magsym symmetry` on the examples, on generated cells and on hostile ones, and Spglib beside it where it is installed.
 
 Run it by hand, after the gate, on a quiet machine: bench/bench.py [--runs N] [--only WORD] [--limit SECONDS]
-A time of magsym is the best of N runs of the whole program: it starts, reads the cell, and writes the report to a file.
+A time of magsym is the best of N runs of the whole program, from the call that starts it to its end: it reads the cell, and
+writes the report to a file.
 That of Spglib is the time of one call of get_magnetic_symmetry, at its default tolerances, in a Python that has loaded it;
 a call that passes the limit is stopped. The last column says how many times that of magsym the time of Spglib is. The hostile
 cells, on which most maps fail late, are those of bench/hostile.py.
 """
 import argparse
+import os
 import pathlib
 import subprocess
 import sys
@@ -19,6 +21,17 @@ import hostile
 
 TOP = pathlib.Path(__file__).resolve().parent.parent
 PROGRAM = TOP / "crates" / "magsym" / "out" / "magsym"
+
+RUTILE = """magcell 1
+metric 21 21 9 0 0 0
+atom Ti 0 0 0
+atom Ti 1/2 1/2 1/2
+atom O 3/10 3/10 0
+atom O 7/10 7/10 0
+atom O 8/10 2/10 1/2
+atom O 2/10 8/10 1/2
+end
+"""
 
 try:
     import numpy
@@ -62,6 +75,8 @@ def cells():
         text = path.read_text()
         if not path.with_suffix(".status").exists() and "magcell 1" in text.splitlines():
             yield path.stem, text
+    yield "one atom", "magcell 1\nmetric 1 1 1 0 0 0\natom A 0 0 0\nend\n"
+    yield "rutile, 6 atoms", RUTILE
     for side in (4, 5, 6, 7, 8):
         square = side * side
         yield f"cube, {side**3} atoms", generated(f"{square} {square} {square} 0 0 0", (side,) * 3, no_moment)
@@ -80,10 +95,12 @@ def operations_of(text):
         cell.write(text)
         cell.flush()
         with open(cell.name) as given:
+            streams = [(os.POSIX_SPAWN_DUP2, given.fileno(), 0), (os.POSIX_SPAWN_DUP2, out.fileno(), 1)]
             start = time.perf_counter()
-            done = subprocess.run([PROGRAM, "symmetry"], stdin=given, stdout=out, check=False)
+            child = os.posix_spawn(PROGRAM, [PROGRAM, "symmetry"], os.environ, file_actions=streams)
+            _, status = os.waitpid(child, 0)
             seconds = time.perf_counter() - start
-        if done.returncode != 0:
+        if status != 0:
             return seconds, None
         out.seek(0)
         return seconds, sum(1 for _ in out)

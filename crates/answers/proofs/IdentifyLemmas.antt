@@ -1,28 +1,21 @@
 -- The maps of a table's rows, one after another, and what a search for them asks of a found group.
-use Rattle.std.proofs.Common.{◌≡◌, ℕ, suc, ◌+◌, ℤ, Bool, true, List, [], ◌∷◌, ◌++◌, length, map, drop, refl, sym, ap, subst, ◌∙◌, arith, lit≤, append_assoc}
+use Rattle.std.proofs.Common.{◌≡◌, ℕ, suc, ◌+◌, Bool, true, List, [], ◌∷◌, ◌++◌, length, map, drop, refl, sym, ap, subst, ◌∙◌, append_assoc}
 use Rattle.std.specs.Prelude.{Some, None, Option, slice_get, IfOk, IfSome, IfNone}
 use Rattle.std.specs.declared.result.Result.{Result}
 use Rattle.std.specs.declared.result.Result.TheVariants.{Ok, Err}
-use Rattle.ring.specs.Size.{AtMost}
 use Rattle.matrix3.specs.Matrices.{vector_map}
-use Rattle.matrix3.proofs.FitsBySize.{entries_grown}
 use Rattle.lists.proofs.Walks.{drop_at}
 use Rattle.exact_num.specs.Meanings.{fraction_of}
 use Rattle.crystal_spec.specs.Matrices.{Matrix}
-use Rattle.crystal_spec.specs.Cells.{IsCell}
 use Rattle.crystal_spec.specs.Crystals.{Structure}
 use Rattle.crystal_spec.specs.Operations.{Operation, ListsAll}
-use Rattle.matrix3.specs.Bounds.{EntriesAtMost}
-use Rattle.lattice_spec.specs.Niggli.{IsNiggli}
 use Rattle.op_group.specs.Lists.{OperationList}
 use Rattle.prim_cell.specs.Primitives.{PrimitiveCell}
-use Rattle.mag_ops.proofs.Carrying.{reduced_isometry_small}
 use Rattle.hall_symbol.specs.Symbols.{HallSymbol, generators}
 use Rattle.hall_text.specs.Products.{IsGroupOf}
 use Rattle.hall_text.specs.declared.rows.Row.{Row}
 use Rattle.match_spec.specs.Fractions.{point_of}
 use Rattle.match_spec.specs.FirstMap.{IsFirstMap, HasNoMap}
-use Rattle.group_match.specs.Tasks.{HasEntriesAtMost}
 use Rattle.group_match.specs.declared.map.Map.{Map}
 use Rattle.match_text.specs.MatchText.{has_match, matches_text}
 use Rattle.report_basis.specs.declared.Kept.{Kept}
@@ -60,14 +53,6 @@ one_map_a_row n os [] [] h = refl
 one_map_a_row n os [] (m ∷ maps) h = absurd h
 one_map_a_row n os (row ∷ rows) [] h = absurd h
 one_map_a_row n os (row ∷ rows) (m ∷ maps) h = ap suc (one_map_a_row n os rows maps h.1)
-
--- ---- what is asked of the found group
-
--- the operations keep a metric tensor that meets the Niggli conditions, so their entries are -1, 0 and 1
-pub found_entries : (c : Structure) (p : PrimitiveCell) (list : OperationList) → IsCell p.cell → IsFound c true p list → HasEntriesAtMost 150000000 list.operations
-found_entries c p list cell found o m =
-    let niggli : IsNiggli p.cell.metric = subst (λ (t : Structure). IsNiggli t.metric) (sym found.cell.cell) found.cell.niggli in
-    entries_grown (lit≤ tt) (reduced_isometry_small p.cell.metric o.matrix niggli cell.symmetric ((found.group.exact o).0 m).keeps.metric)
 
 -- ---- the report
 

@@ -4,5 +4,4 @@ mod FoundLemmas
 mod IdentifyLemmas
 mod Listed
 mod OneReport
-mod SpelledSizes
 mod StandardLemmas

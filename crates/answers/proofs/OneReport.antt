@@ -9,7 +9,7 @@ use Rattle.std.proofs.lemmas.Option.{slice_get-get_or, slice_get_within}
 use Rattle.lists.specs.Increasing.{IsIncreasing, IsMember}
 use Rattle.lists.proofs.Increasing.{increasing_unique}
 use Rattle.crystal_spec.specs.Matrices.{Triple, Matrix, image}
-use Rattle.crystal_spec.specs.Crystals.{Site, Structure}
+use Rattle.crystal_spec.specs.Crystals.{Atom, Structure}
 use Rattle.crystal_spec.specs.Operations.{Operation, compare_of, ListsAll}
 use Rattle.crystal_spec.specs.Cells.{IsCell}
 use Rattle.crystal_spec.proofs.Ordered.{compare_total}
@@ -74,8 +74,8 @@ kind_once c os j k cell all zero_alone a b f g u v = λ i. record {
 
 first_once : (c : Structure) (r : Matrix) (os : List Operation) (p : Triple) (i j : ℕ) → IsFirstAlike c r os p i → IsFirstAlike c r os p j → i ≡ j
 first_once c r os p i j h k =
-    let up = h.least j k.site k.is_site k.alike in
-    let down = k.least i h.site h.is_site h.alike in
+    let up = h.least j k.atom k.is_atom k.alike in
+    let down = k.least i h.atom h.is_atom h.alike in
     omega (arith, up, down)
 
 size_once : (c : Structure) (os : List Operation) (p : Triple) (i j : ℕ) → CountsOrbit c os p i → CountsOrbit c os p j → i ≡ j
@@ -103,14 +103,14 @@ same_items (x ∷ xs) (y ∷ ys) e h =
     λ i. first i ∷ rest i
 
 -- some atom
-no_site : Site
-no_site = record { species = 0; position = record { x = pos 0; y = pos 0; z = pos 0 }; moment = record { x = pos 0; y = pos 0; z = pos 0 } }
+no_atom : Atom
+no_atom = record { species = 0; position = record { x = pos 0; y = pos 0; z = pos 0 }; moment = record { x = pos 0; y = pos 0; z = pos 0 } }
 
-orbits_once : (c : Structure) (r : Matrix) (b : Structure) (os : List Operation) (xs ys : List AtomOrbit) → length xs ≡ length c.sites → length ys ≡ length c.sites → HaveOrbits c r b os xs → HaveOrbits c r b os ys → xs ≡ ys
+orbits_once : (c : Structure) (r : Matrix) (b : Structure) (os : List Operation) (xs ys : List AtomOrbit) → length xs ≡ length c.atoms → length ys ≡ length c.atoms → HaveOrbits c r b os xs → HaveOrbits c r b os ys → xs ≡ ys
 orbits_once c r b os xs ys m n h k = same_items xs ys (m ∙ sym n) (λ i x y p q.
-    let inside : i < length c.sites = subst (λ (l : ℕ). i < l) m (slice_get_within xs i x p) in
-    let a = get_or c.sites i no_site in
-    let at = slice_get-get_or c.sites i no_site inside in
+    let inside : i < length c.atoms = subst (λ (l : ℕ). i < l) m (slice_get_within xs i x p) in
+    let a = get_or c.atoms i no_atom in
+    let at = slice_get-get_or c.atoms i no_atom inside in
     orbit_once c r b os (image r a.position) x y (h i x p a at) (k i y q a at))
 
 -- ---- the reports
@@ -142,7 +142,7 @@ orbits_report_once c q bytes others h k =
     let b = cell_in_basis c q in
     let same = all_once b h.operations k.operations h.all k.all in
     let orbits = orbits_once c q b h.operations h.orbits k.orbits h.of_each_atom k.of_each_atom h.are_orbits (subst (λ (us : List Operation). HaveOrbits c q b us k.orbits) (sym same) k.are_orbits) in
-    h.lines ∙ ap (orbit_text c.names c.sites) orbits ∙ sym k.lines
+    h.lines ∙ ap (orbit_text c.names c.atoms) orbits ∙ sym k.lines
 
 moments_once : (c : Structure) (q : Matrix) (bytes others : List ℕ) → IsMomentsReport c q bytes → IsMomentsReport c q others → bytes ≡ others
 moments_once c q bytes others h k =

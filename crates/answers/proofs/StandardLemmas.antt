@@ -3,7 +3,6 @@ use Rattle.std.proofs.Common.{◌≡◌, refl, sym, ap, subst, ◌∙◌, ℕ, z
 use Rattle.std.specs.Prelude.{Some, None, Option, slice_get, IfOk, IfSome}
 use Rattle.std.specs.declared.result.Result.{Result}
 use Rattle.std.specs.declared.result.Result.TheVariants.{Ok, Err}
-use Rattle.std.proofs.lemmas.List.{length-append}
 use Rattle.matrix3.specs.Matrices.{vector_map}
 use Rattle.exact_num.specs.Meanings.{fraction_of}
 use Rattle.crystal_spec.specs.Matrices.{Matrix}
@@ -32,7 +31,7 @@ use Rattle.answers.specs.declared.standard.Matching.{Matching}
 use Rattle.answers.specs.Findings.{IsFound}
 use Rattle.answers.specs.IdentifyReports.{IsUnmatched}
 use Rattle.answers.specs.Matchings.{IsMapOfGroup, IsMatching}
-use Rattle.answers.specs.StandardReports.{AreUnmatched, IsFirstMatch, origin_of, HasFirstMatch, IsCellReport, IsTooWide, IsUnmatchedReport}
+use Rattle.answers.specs.StandardReports.{AreUnmatched, origin_of, HasFirstMatch, IsCellReport, IsTooWide, IsUnmatchedReport}
 
 -- ---- the first matched row
 

@@ -33,6 +33,6 @@ pub record IsDatasetReport (c : Structure) (q : Matrix) (bytes : List ℕ) : Typ
   pub family : IsNumberOf (IsInFamily operations) kind.family
   pub unprimed : IsNumberOf (IsUnprimed operations) kind.unprimed
   pub orbits : List AtomOrbit
-  pub of_each_atom : length orbits ≡ length c.sites
+  pub of_each_atom : length orbits ≡ length c.atoms
   pub are_orbits : HaveOrbits c q (cell_in_basis c q) operations orbits
   pub lines : bytes ≡ dataset_text index q (cell_in_basis c q) (record { n = c.n; operations = operations }) (length operations_of_cell) kind orbits

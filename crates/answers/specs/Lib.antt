@@ -10,7 +10,6 @@ pub mod MomentReports
 pub mod OrbitReports
 pub mod PrimitiveReports
 pub mod Reports
-pub mod Spelled
 pub mod StandardReports
 pub mod SummaryReports
 pub mod SymmetryReports

@@ -1,5 +1,5 @@
 -- What `moments` tells of a crystal.
---   IsMomentsReport c q bytes   the moments that the sites of c allow, with its primitive cell in the basis of q
+--   IsMomentsReport c q bytes   the moments that the atoms of c allow, with its primitive cell in the basis of q
 -- Our own.
 use Rattle.std.specs.Prelude.{◌≡◌, ℕ, List}
 use Rattle.crystal_spec.specs.Matrices.{Matrix}

@@ -18,6 +18,6 @@ pub record IsOrbitReport (c : Structure) (q : Matrix) (bytes : List ℕ) : Type 
   pub operations : List Operation
   pub all : ListsAll (cell_in_basis c q) operations
   pub orbits : List AtomOrbit
-  pub of_each_atom : length orbits ≡ length c.sites
+  pub of_each_atom : length orbits ≡ length c.atoms
   pub are_orbits : HaveOrbits c q (cell_in_basis c q) operations orbits
-  pub lines : bytes ≡ orbit_text c.names c.sites orbits
+  pub lines : bytes ≡ orbit_text c.names c.atoms orbits

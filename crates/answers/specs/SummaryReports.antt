@@ -31,7 +31,7 @@ pub record IsSummary (c : Structure) (q : Matrix) (bytes : List ℕ) : Type 0 wh
   pub all_of_cell : ListsAll c operations_of_cell
   pub kind : ℕ
   pub is_type : IsMagneticType operations kind
-  pub lines : bytes ≡ summary_text (length c.sites) index (length operations) kind (length operations_of_cell)
+  pub lines : bytes ≡ summary_text (length c.atoms) index (length operations) kind (length operations_of_cell)
 
 -- the text that the seed generates spells a cell, of which this is the summary
 pub record IsSeedSummary (seed : ℕ) (q : Matrix) (bytes : List ℕ) : Type 0 where

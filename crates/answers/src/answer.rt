@@ -6,7 +6,7 @@ ghost use Rattle.crystal_spec.specs.Crystals.{Structure};
 ghost use Rattle.command_words.specs.Commands.{ReadsCellAlone, ReadsTable};
 ghost use Rattle.answers.specs.Answers.{IsAnswer, IsTableAnswer};
 ghost use Rattle.answers.specs.Reports.{HasOneReport};
-ghost use Rattle.answers.specs.Spelled.{IsSpelled};
+ghost use Rattle.crystal.specs.Sizes.{HasSizesOfRead};
 
 use crate::dataset::answer_dataset;
 use crate::identify::answer_identify;
@@ -69,7 +69,7 @@ pub fn answer_of<L: Ledger>(
     steps: &mut Steps<L>,
 ) -> Result<Answer, AllocError>
     requires reads { ReadsCellAlone command }
-    requires spelled { IsSpelled cell.now }
+    requires sizes { HasSizesOfRead cell.now }
     ensures { IfOk result (λ answer. IsAnswer command cell.now answer) }
 {
     match command {
@@ -93,7 +93,7 @@ pub fn answer_on_table<L: Ledger>(
     steps: &mut Steps<L>,
 ) -> Result<Answer, AllocError>
     requires reads { ReadsTable command }
-    requires spelled { IsSpelled cell.now }
+    requires sizes { HasSizesOfRead cell.now }
     ensures { IfOk result (λ answer. IsTableAnswer command cell.now table.now answer) }
 {
     match command {

@@ -4,7 +4,7 @@ ghost use Rattle.std.specs.Prelude.{IfOk};
 ghost use Rattle.crystal_spec.specs.Crystals.{Structure};
 ghost use Rattle.answers.specs.Answers.{IsCompareAnswer};
 ghost use Rattle.answers.specs.Findings.{IsReducedPrimitive};
-ghost use Rattle.answers.specs.Spelled.{IsSpelled};
+ghost use Rattle.crystal.specs.Sizes.{HasSizesOfRead};
 
 use crate::answer::{Answer, Report};
 use crate::found::made_of;
@@ -36,8 +36,8 @@ fn answer_of_cells(alloc: Global, one: &Primitive, other: &Primitive) -> Result<
 /// were read to those there. The answer is `Different` where there is no map, and else `Report`. Refuses for want of memory
 /// alone.
 pub fn answer_compare(alloc: Global, cell: &Cell, other: &Cell) -> Result<Answer, AllocError>
-    requires one { IsSpelled cell.now }
-    requires other { IsSpelled other.now }
+    requires one { HasSizesOfRead cell.now }
+    requires other { HasSizesOfRead other.now }
     ensures { IfOk result (λ answer. IsCompareAnswer cell.now other.now answer) }
 {
     let first = made_of(alloc, cell)?;

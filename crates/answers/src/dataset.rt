@@ -3,11 +3,13 @@
 ghost use Rattle.std.specs.Prelude.{true, IfOk};
 ghost use Rattle.crystal_spec.specs.Crystals.{Structure};
 ghost use Rattle.crystal_spec.specs.Operations.{ListsAll};
+ghost use Rattle.op_group.specs.Groups.{IsGroupModulo};
+ghost use Rattle.mag_type.specs.MagneticTypes.{HasOnlyZeroTranslation};
 ghost use Rattle.command_words.specs.declared.command.Command.TheVariants.{Dataset};
 ghost use Rattle.answers.specs.Answers.{IsAnswer};
 ghost use Rattle.answers.specs.Findings.{IsFound, IsOrder};
 ghost use Rattle.answers.specs.Reports.{IsReport};
-ghost use Rattle.answers.specs.Spelled.{IsSpelled};
+ghost use Rattle.crystal.specs.Sizes.{HasSizesOfRead};
 
 use crate::answer::{Answer, Report};
 use crate::found::{Found, found_of, kept};
@@ -30,7 +32,9 @@ pub(crate) fn order_of(alloc: Global, found: &Found) -> Result<u64, AllocError>
 
 /// What is found of a cell: its primitive cell with all operations of that, and the magnetic type.
 fn report_of_dataset(alloc: Global, cell: &Cell, found: &Found) -> Result<Report, AllocError>
-    requires { IsFound cell.now true found.now.made found.now.group }
+    requires found { IsFound cell.now true found.now.made found.now.group }
+    requires group { IsGroupModulo found.now.group.n found.now.group.operations }
+    requires primitive { HasOnlyZeroTranslation found.now.group.operations }
     ensures { IfOk result (λ report. IsReport Dataset cell.now report.kept report.text) }
 {
     let order = order_of(alloc, found)?;
@@ -57,7 +61,7 @@ pub(crate) fn answer_dataset<L: Ledger>(
     cell: &Cell,
     steps: &mut Steps<L>,
 ) -> Result<Answer, AllocError>
-    requires { IsSpelled cell.now }
+    requires { HasSizesOfRead cell.now }
     ensures { IfOk result (λ answer. IsAnswer Dataset cell.now answer) }
 {
     let found = found_of(alloc, cell, true, steps)?;

@@ -9,7 +9,7 @@ ghost use Rattle.command_words.specs.Fillings.{IsSmall, IsSmallComponent};
 ghost use Rattle.answers.specs.Answers.{IsFillAnswer};
 ghost use Rattle.answers.specs.Findings.{IsFound};
 ghost use Rattle.answers.specs.FillReports.{moment_of};
-ghost use Rattle.answers.specs.Spelled.{IsSpelled};
+ghost use Rattle.crystal.specs.Sizes.{HasSizesOfRead};
 
 use crate::answer::{Answer, Report};
 use crate::found::{Found, found_of, kept};
@@ -40,7 +40,7 @@ fn moment_of(cell: &Cell, filling: &Filling) -> Vec3<Int>
     ensures value { result ≡ moment_of cell.now filling.now }
     ensures size { CoordinatesAtMost (10 ^ 15) result }
 {
-    let _form = cell.count();
+    cell.invariant();
     let k = cell.k();
     Vec3 {
         x: scaled(k, filling.a),
@@ -67,7 +67,7 @@ fn answer_on_site(
 ) -> Result<Answer, AllocError>
     requires found { IsFound cell.now true found.now.made found.now.group }
     requires number { filling.now.atom ≡ suc atom }
-    requires below { atom < length cell.now.sites }
+    requires below { atom < length cell.now.atoms }
     requires small { IsSmall filling.now }
     requires site_n { site.now.n ≡ found.now.made.cell.n }
     requires site { IsSiteAt cell.now found.now.made.back found.now.made.cell found.now.group.operations atom site.now.operations }
@@ -98,7 +98,7 @@ fn answer_at_atom(
 ) -> Result<Answer, AllocError>
     requires found { IsFound cell.now true found.now.made found.now.group }
     requires at_least { 1 ≤ filling.now.atom }
-    requires at_most { filling.now.atom ≤ length cell.now.sites }
+    requires at_most { filling.now.atom ≤ length cell.now.atoms }
     requires small { IsSmall filling.now }
     ensures { IfOk result (λ answer. IsFillAnswer cell.now filling.now answer) }
 {
@@ -119,7 +119,7 @@ pub fn answer_fill<L: Ledger>(
     filling: &Filling,
     steps: &mut Steps<L>,
 ) -> Result<Answer, AllocError>
-    requires spelled { IsSpelled cell.now }
+    requires sizes { HasSizesOfRead cell.now }
     requires small { IsSmall filling.now }
     ensures { IfOk result (λ answer. IsFillAnswer cell.now filling.now answer) }
 {

@@ -3,7 +3,10 @@
 ghost use Rattle.std.specs.Prelude.{◌≡◌, Bool, IfOk};
 ghost use Rattle.report_basis.specs.declared.Kept.TheVariants.{Back};
 ghost use Rattle.answers.specs.Findings.{IsReducedPrimitive, IsFound};
-ghost use Rattle.answers.specs.Spelled.{IsSpelled};
+ghost use Rattle.crystal.specs.Sizes.{HasSizesOfRead};
+ghost use Rattle.op_group.specs.Groups.{IsGroupModulo};
+ghost use Rattle.op_group.specs.Lists.{HasEntriesAtMost};
+ghost use Rattle.mag_type.specs.MagneticTypes.{HasOnlyZeroTranslation};
 
 use crystal::{Cell, Steps};
 use mag_ops::full_group;
@@ -29,10 +32,10 @@ pub(crate) fn kept(made: &Primitive) -> Kept
 
 /// The primitive cell of a cell that was read.
 pub(crate) fn made_of(alloc: Global, cell: &Cell) -> Result<Primitive, AllocError>
-    requires { IsSpelled cell.now }
+    requires { HasSizesOfRead cell.now }
     ensures { IfOk result (λ made. IsReducedPrimitive cell.now made) }
 {
-    let _form = cell.count();
+    cell.invariant();
     primitive(alloc, cell)
 }
 
@@ -43,8 +46,11 @@ pub(crate) fn found_of<L: Ledger>(
     time: bool,
     steps: &mut Steps<L>,
 ) -> Result<Found, AllocError>
-    requires { IsSpelled cell.now }
-    ensures { IfOk result (λ found. IsFound cell.now time found.made found.group) }
+    requires { HasSizesOfRead cell.now }
+    ensures found { IfOk result (λ found. IsFound cell.now time found.made found.group) }
+    ensures group { IfOk result (λ found. IsGroupModulo found.group.n found.group.operations) }
+    ensures primitive { IfOk result (λ found. HasOnlyZeroTranslation found.group.operations) }
+    ensures small { IfOk result (λ found. HasEntriesAtMost 1 found.group.operations) }
 {
     let made = made_of(alloc, cell)?;
     let group = full_group(alloc, &made, time, steps)?;

@@ -21,7 +21,7 @@ fn report_of_group(alloc: Global, symbol: &Symbol, list: &OpList) -> Result<Repo
     requires exact { IsGroupOf (generators symbol.now) list.now.operations }
     ensures { IfOk result (λ report. (word : List ℕ) → Spells word symbol.now → IsHallReport word report.kept report.text) }
 {
-    let _ordered = list.count();
+    list.invariant();
     let text = ops_report(alloc, list, 0, None)?;
     Ok(Report {
         kept: Kept::NoBase,

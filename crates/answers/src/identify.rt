@@ -4,13 +4,13 @@ ghost use Rattle.std.specs.Prelude.{◌≤◌, ◌^◌, true, map, IfOk, IfSome}
 ghost use Rattle.crystal_spec.specs.Crystals.{Structure};
 ghost use Rattle.op_group.specs.Groups.{IsGroupModulo};
 ghost use Rattle.mag_type.specs.MagneticTypes.{HasOnlyZeroTranslation};
-ghost use Rattle.group_match.specs.Tasks.{HasEntriesAtMost};
+ghost use Rattle.op_group.specs.Lists.{HasEntriesAtMost};
 ghost use Rattle.command_words.specs.declared.command.Command.TheVariants.{Identify};
 ghost use Rattle.answers.specs.Answers.{IsTableAnswer};
 ghost use Rattle.answers.specs.Findings.{IsFound};
 ghost use Rattle.answers.specs.IdentifyReports.{IsRowMap, AreRowMaps};
 ghost use Rattle.answers.specs.Matchings.{IsMapOfGroup};
-ghost use Rattle.answers.specs.Spelled.{IsSpelled};
+ghost use Rattle.crystal.specs.Sizes.{HasSizesOfRead};
 
 use crate::answer::{Answer, Report};
 use crate::found::{Found, found_of, kept};
@@ -32,7 +32,7 @@ pub(crate) fn map_of(
 ) -> Result<Option<Map>, AllocError>
     requires group { IsGroupModulo found.now.n found.now.operations }
     requires primitive { HasOnlyZeroTranslation found.now.operations }
-    requires entries { HasEntriesAtMost 150000000 found.now.operations }
+    requires small { HasEntriesAtMost 1 found.now.operations }
     requires n { found.now.n ≤ 10 ^ 6 }
     ensures value { IfOk result (λ m. IsRowMap found.now.n found.now.operations symbol.now m) }
     ensures group { IfOk result (λ m. IfSome m (IsMapOfGroup found.now.n found.now.operations symbol.now)) }
@@ -47,7 +47,7 @@ pub(crate) fn map_of(
 fn maps_of(alloc: Global, table: &Table, found: &OpList) -> Result<Maps, AllocError>
     requires group { IsGroupModulo found.now.n found.now.operations }
     requires primitive { HasOnlyZeroTranslation found.now.operations }
-    requires entries { HasEntriesAtMost 150000000 found.now.operations }
+    requires small { HasEntriesAtMost 1 found.now.operations }
     requires n { found.now.n ≤ 10 ^ 6 }
     ensures { IfOk result (λ maps. AreRowMaps found.now.n found.now.operations (map (λ row. row.symbol) table.now) maps) }
 {
@@ -90,11 +90,11 @@ pub(crate) fn answer_identify<L: Ledger>(
     table: &Table,
     steps: &mut Steps<L>,
 ) -> Result<Answer, AllocError>
-    requires { IsSpelled cell.now }
+    requires { HasSizesOfRead cell.now }
     ensures { IfOk result (λ answer. IsTableAnswer Identify cell.now table.now answer) }
 {
     let found = found_of(alloc, cell, true, steps)?;
-    let _form = found.made.cell().count();
+    found.made.cell().invariant();
     let maps = maps_of(alloc, table, &found.group)?;
     answer_of_maps(alloc, table, &found, &maps)
 }

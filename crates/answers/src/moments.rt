@@ -5,7 +5,7 @@ ghost use Rattle.command_words.specs.declared.command.Command.TheVariants.{Momen
 ghost use Rattle.answers.specs.Answers.{IsAnswer};
 ghost use Rattle.answers.specs.Findings.{IsFound};
 ghost use Rattle.answers.specs.Reports.{IsReport};
-ghost use Rattle.answers.specs.Spelled.{IsSpelled};
+ghost use Rattle.crystal.specs.Sizes.{HasSizesOfRead};
 
 use crate::answer::{Answer, Report};
 use crate::found::{Found, found_of, kept};
@@ -15,7 +15,7 @@ use site_orbits::orbits;
 use std::alloc::{AllocError, Global};
 use std::sync::ledger::Ledger;
 
-/// The moments that the sites of a cell allow.
+/// The moments that the atoms of a cell allow.
 fn report_of_moments(alloc: Global, cell: &Cell, found: &Found) -> Result<Report, AllocError>
     requires { IsFound cell.now true found.now.made found.now.group }
     ensures { IfOk result (λ report. IsReport Moments cell.now report.kept report.text) }
@@ -28,14 +28,14 @@ fn report_of_moments(alloc: Global, cell: &Cell, found: &Found) -> Result<Report
     })
 }
 
-/// The moments that the sites of a cell that was read allow, under all symmetry operations of its primitive cell in a
+/// The moments that the atoms of a cell that was read allow, under all symmetry operations of its primitive cell in a
 /// Niggli-reduced basis.
 pub(crate) fn answer_moments<L: Ledger>(
     alloc: Global,
     cell: &Cell,
     steps: &mut Steps<L>,
 ) -> Result<Answer, AllocError>
-    requires { IsSpelled cell.now }
+    requires { HasSizesOfRead cell.now }
     ensures { IfOk result (λ answer. IsAnswer Moments cell.now answer) }
 {
     let found = found_of(alloc, cell, true, steps)?;

@@ -5,7 +5,7 @@ ghost use Rattle.command_words.specs.declared.command.Command.TheVariants.{Orbit
 ghost use Rattle.answers.specs.Answers.{IsAnswer};
 ghost use Rattle.answers.specs.Findings.{IsFound};
 ghost use Rattle.answers.specs.Reports.{IsReport};
-ghost use Rattle.answers.specs.Spelled.{IsSpelled};
+ghost use Rattle.crystal.specs.Sizes.{HasSizesOfRead};
 
 use crate::answer::{Answer, Report};
 use crate::found::{Found, found_of, kept};
@@ -35,7 +35,7 @@ pub(crate) fn answer_orbits<L: Ledger>(
     cell: &Cell,
     steps: &mut Steps<L>,
 ) -> Result<Answer, AllocError>
-    requires { IsSpelled cell.now }
+    requires { HasSizesOfRead cell.now }
     ensures { IfOk result (λ answer. IsAnswer Orbits cell.now answer) }
 {
     let found = found_of(alloc, cell, true, steps)?;

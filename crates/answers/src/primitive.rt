@@ -6,7 +6,7 @@ ghost use Rattle.command_words.specs.declared.command.Command.TheVariants.{Primi
 ghost use Rattle.answers.specs.Answers.{IsAnswer};
 ghost use Rattle.answers.specs.Findings.{IsReducedPrimitive};
 ghost use Rattle.answers.specs.Reports.{IsReport};
-ghost use Rattle.answers.specs.Spelled.{IsSpelled};
+ghost use Rattle.crystal.specs.Sizes.{HasSizesOfRead};
 
 use crate::answer::{Answer, Report};
 use crate::found::{kept, made_of};
@@ -27,7 +27,7 @@ fn report_of_primitive(alloc: Global, made: &prim_cell::Primitive) -> Result<Rep
 
 /// The primitive cell of a cell that was read, in a Niggli-reduced basis.
 pub(crate) fn answer_primitive(alloc: Global, cell: &Cell) -> Result<Answer, AllocError>
-    requires { IsSpelled cell.now }
+    requires { HasSizesOfRead cell.now }
     ensures { IfOk result (λ answer. IsAnswer Primitive cell.now answer) }
 {
     let made = made_of(alloc, cell)?;

@@ -3,6 +3,9 @@
 ghost use Rattle.std.specs.Prelude.{true, IfOk};
 ghost use Rattle.generated_cell.specs.GeneratedText.{generated_text};
 ghost use Rattle.cell_text.specs.CellFile.{Spells};
+ghost use Rattle.crystal.specs.Sizes.{HasSizesOfRead};
+ghost use Rattle.op_group.specs.Groups.{IsGroupModulo};
+ghost use Rattle.mag_type.specs.MagneticTypes.{HasOnlyZeroTranslation};
 ghost use Rattle.answers.specs.Answers.{IsSeedAnswer};
 ghost use Rattle.answers.specs.Findings.{IsFound};
 ghost use Rattle.answers.specs.SummaryReports.{IsSeedReport};
@@ -20,7 +23,8 @@ use std::sync::ledger::Ledger;
 
 /// The cell that the text of a seed spells.
 fn cell_of(alloc: Global, seed: u32) -> Result<Cell, AllocError>
-    ensures { IfOk result (λ cell. Spells (generated_text seed) cell) }
+    ensures spelled { IfOk result (λ cell. Spells (generated_text seed) cell) }
+    ensures sizes { IfOk result HasSizesOfRead }
 {
     let text = generate(alloc, seed)?;
     let Ok(cell) = read_cell(alloc, &text) else {
@@ -39,6 +43,8 @@ fn report_of_summary(
 ) -> Result<Report, AllocError>
     requires spelled { Spells (generated_text seed) cell.now }
     requires found { IsFound cell.now true found.now.made found.now.group }
+    requires group { IsGroupModulo found.now.group.n found.now.group.operations }
+    requires primitive { HasOnlyZeroTranslation found.now.group.operations }
     ensures { IfOk result (λ report. IsSeedReport seed report.kept report.text) }
 {
     let order = order_of(alloc, found)?;

@@ -4,12 +4,12 @@ ghost use Rattle.std.specs.Prelude.{◌^◌, ◌≤◌, ◌<◌, true, length, I
 ghost use Rattle.crystal_spec.specs.Crystals.{Structure};
 ghost use Rattle.op_group.specs.Groups.{IsGroupModulo};
 ghost use Rattle.mag_type.specs.MagneticTypes.{HasOnlyZeroTranslation};
-ghost use Rattle.group_match.specs.Tasks.{HasEntriesAtMost};
+ghost use Rattle.op_group.specs.Lists.{HasEntriesAtMost};
 ghost use Rattle.command_words.specs.declared.command.Command.TheVariants.{Standard};
 ghost use Rattle.answers.specs.Answers.{IsTableAnswer};
 ghost use Rattle.answers.specs.Findings.{IsFound};
 ghost use Rattle.answers.specs.Matchings.{IsMatching};
-ghost use Rattle.answers.specs.Spelled.{IsSpelled};
+ghost use Rattle.crystal.specs.Sizes.{HasSizesOfRead};
 ghost use Rattle.answers.specs.StandardReports.{AreUnmatched};
 
 use crate::answer::{Answer, Report};
@@ -35,7 +35,7 @@ pub(crate) struct Matching {
 fn first_match(alloc: Global, table: &Table, found: &OpList) -> Result<Option<Matching>, AllocError>
     requires group { IsGroupModulo found.now.n found.now.operations }
     requires primitive { HasOnlyZeroTranslation found.now.operations }
-    requires entries { HasEntriesAtMost 150000000 found.now.operations }
+    requires small { HasEntriesAtMost 1 found.now.operations }
     requires n { found.now.n ≤ 10 ^ 6 }
     ensures matched { IfOk result (λ m. IfSome m (IsMatching found.now.n found.now.operations table.now)) }
     ensures none { IfOk result (λ m. IfNone m (AreUnmatched found.now.n found.now.operations table.now)) }
@@ -106,11 +106,11 @@ pub(crate) fn answer_standard<L: Ledger>(
     table: &Table,
     steps: &mut Steps<L>,
 ) -> Result<Answer, AllocError>
-    requires { IsSpelled cell.now }
+    requires { HasSizesOfRead cell.now }
     ensures { IfOk result (λ answer. IsTableAnswer Standard cell.now table.now answer) }
 {
     let found = found_of(alloc, cell, true, steps)?;
-    let _form = found.made.cell().count();
+    found.made.cell().invariant();
     let matching = first_match(alloc, table, &found.group)?;
     answer_of_matching(alloc, &found, table, &matching)
 }

@@ -7,7 +7,7 @@ ghost use Rattle.command_words.specs.declared.command.Command.TheVariants.{Symme
 ghost use Rattle.answers.specs.Answers.{IsAnswer};
 ghost use Rattle.answers.specs.Findings.{IsFound};
 ghost use Rattle.answers.specs.Reports.{IsReport};
-ghost use Rattle.answers.specs.Spelled.{IsSpelled};
+ghost use Rattle.crystal.specs.Sizes.{HasSizesOfRead};
 
 use crate::answer::{Answer, Report};
 use crate::found::{Found, found_of};
@@ -59,7 +59,7 @@ pub(crate) fn answer_symmetry<L: Ledger>(
     take: Option<u32>,
     steps: &mut Steps<L>,
 ) -> Result<Answer, AllocError>
-    requires { IsSpelled cell.now }
+    requires { HasSizesOfRead cell.now }
     ensures { IfOk result (λ answer. IsAnswer (Symmetry time skip take) cell.now answer) }
 {
     let found = found_of(alloc, cell, time, steps)?;

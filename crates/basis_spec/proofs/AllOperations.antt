@@ -32,7 +32,7 @@ wanted_in_cell time c' r os found a up exact c cell kept e = record {
 }
 
 -- What is carried from the list of all symmetry operations of the primitive cell c' is, in increasing order, the list of
--- all symmetry operations of each cell c of which c' is the primitive cell in the basis of R.
+-- all symmetry operations of each cell c of which c' is the primitive cell in the basis of Q.
 pub in_cell_is_all : (c' : Structure) (r : Matrix) (os found : List Operation) → ListsAll c' os → IsIncreasing compare_of found → ((o : Operation) → IsMember o found ↔ IsCarried c'.n r os o) →
     (c : Structure) → IsCell c → IsPrimitiveIn c r → cell_in_basis c r ≡ c' → ListsAll c found
 in_cell_is_all c' r os found a up exact c cell kept e = all_of_wanted c found (wanted_in_cell true c' r os found (wanted_of_all c' os a) up exact c cell kept e)

@@ -9,7 +9,7 @@ use Rattle.ring.specs.Ring.{var, con, ◌:+◌, ◌:*◌}
 use Rattle.ring.proofs.IntOrder.{≤ℤ_antisymm}
 use Rattle.lists.specs.Increasing.{IsMember}
 use Rattle.crystal_spec.specs.Matrices.{Triple, Matrix, product, determinant, identity, difference, image, multiple, sum_of}
-use Rattle.crystal_spec.specs.Crystals.{Site, Structure}
+use Rattle.crystal_spec.specs.Crystals.{Atom, Structure}
 use Rattle.positions.specs.Positions.{modulo, triple}
 use Rattle.crystal_spec.specs.Operations.{Operation, IsSymmetryOperation}
 use Rattle.basis_spec.specs.Translations.{IsPureTranslation, pure_translation}
@@ -21,7 +21,7 @@ use Rattle.basis_spec.proofs.StepIndex.{step_back}
 use Rattle.basis_spec.proofs.StepEntries.{back_once, found_is, index_found}
 use Rattle.crystal_spec.proofs.Entrywise.{matrix_same}
 use Rattle.basis_spec.proofs.MatrixLaws.{difference_is, image-identity, sum_comm, sum_swap, add_subtract}
-use Rattle.basis_spec.proofs.Translations.{site_away}
+use Rattle.basis_spec.proofs.Translations.{atom_away}
 use Rattle.positions.proofs.Residues.{modulo_away, modulo_within}
 use Rattle.basis_spec.proofs.PrimitiveCell.{differs_trans}
 use Rattle.basis_spec.proofs.PureTranslations.{translations_same, same_number}
@@ -30,34 +30,34 @@ use Rattle.crystal_spec.proofs.Identities.{by_integers}
 use Rattle.crystal_spec.proofs.Images.{occupied_itself}
 
 -- an atom of a's species to which a translation brings what w makes of a
-pub record Reaches (c : Structure) (w : Matrix) (translation : Triple) (a : Site) : Type 0 where
-  pub atom : Site
-  pub of_cell : IsMember atom c.sites
+pub record Reaches (c : Structure) (w : Matrix) (translation : Triple) (a : Atom) : Type 0 where
+  pub atom : Atom
+  pub of_cell : IsMember atom c.atoms
   pub same_species : atom.species ≡ a.species
   pub is : translation ≡ modulo c.n (difference atom.position (image w a.position))
 
 -- each operation brings each atom to one of its species, so its translation is one of as many
-pub reaches : (c : Structure) (o : Operation) (a : Site) → pos 0 <ℤ pos c.n → IsSymmetryOperation c o → IsMember a c.sites → Reaches c o.matrix o.translation a
+pub reaches : (c : Structure) (o : Operation) (a : Atom) → pos 0 <ℤ pos c.n → IsSymmetryOperation c o → IsMember a c.atoms → Reaches c o.matrix o.translation a
 reaches c o a some k m =
     let h = (k.keeps.crystal a.species a.position a.moment).0 (occupied_itself c a m) in
     let from = image o.matrix a.position in
-    let u = sum_of h.site.position (multiple (negsuc 0) from) in
-    let d = site_away h in
+    let u = sum_of h.atom.position (multiple (negsuc 0) from) in
+    let d = atom_away h in
     record {
-      atom = h.site;
+      atom = h.atom;
       of_cell = h.of_cell;
       same_species = h.same_species;
       is = translations_same c.n o.translation (modulo c.n u) k.translation (modulo_within c.n u some) (differs_trans
           (record {
             cells = d.cells;
-            is = sym (add_subtract o.translation from) ∙ ap (λ v. sum_of v (multiple (negsuc 0) from)) (sum_comm o.translation from ∙ d.is) ∙ sum_swap h.site.position (multiple (pos c.n) d.cells) (multiple (negsuc 0) from);
+            is = sym (add_subtract o.translation from) ∙ ap (λ v. sum_of v (multiple (negsuc 0) from)) (sum_comm o.translation from ∙ d.is) ∙ sum_swap h.atom.position (multiple (pos c.n) d.cells) (multiple (negsuc 0) from);
           })
           (modulo_away c.n u some))
-          ∙ ap (modulo c.n) (sym (difference_is h.site.position from));
+          ∙ ap (modulo c.n) (sym (difference_is h.atom.position from));
     }
 
 -- a pure translation is the difference of the positions of two atoms of a species, of which the first may be chosen
-pub pure_reaches : (c : Structure) (t : Triple) (a : Site) → pos 0 <ℤ pos c.n → IsPureTranslation c t → IsMember a c.sites → (b : Site) × (IsMember b c.sites × ((b.species ≡ a.species) × (t ≡ modulo c.n (difference b.position a.position))))
+pub pure_reaches : (c : Structure) (t : Triple) (a : Atom) → pos 0 <ℤ pos c.n → IsPureTranslation c t → IsMember a c.atoms → (b : Atom) × (IsMember b c.atoms × ((b.species ≡ a.species) × (t ≡ modulo c.n (difference b.position a.position))))
 pure_reaches c t a some h m =
     let k = reaches c (pure_translation t) a some (record { translation = h.translation; keeps = h.keeps }) m in
     (k.atom, (k.of_cell, (k.same_species, k.is ∙ ap (λ (v : Triple). modulo c.n (difference k.atom.position v)) (image-identity a.position))))

@@ -1,7 +1,7 @@
 -- What an operation of the primitive cell gives in the cell.
 --
--- adj(R) undoes R but for the index, so V R = R W and R w0 = v say what index · W and index · w0 are. The translation parts
--- w with R w = v modulo n are then w0 + t modulo n, t a pure translation.
+-- adj(Q) undoes Q but for the index, so V Q = Q W and Q w0 = v say what index · W and index · w0 are. The translation parts
+-- w with Q w = v modulo n are then w0 + t modulo n, t a pure translation.
 use Rattle.std.proofs.Common.{◌≡◌, ℕ, ℤ, pos, negsuc, ◌<ℤ◌, List, refl, sym, ap, subst, ◌∙◌}
 use Rattle.std.specs.Prelude.{◌↔◌}
 use Rattle.lists.specs.Increasing.{IsMember}
@@ -45,7 +45,7 @@ module _ (n : ℕ) (translations : List Operation) (r : Matrix) (some : pos 0 <�
   unfolding InLattice
   list_of t h = h
 
-  -- of a member with the translation part v = R w0, exactly the w0 + t modulo n, t a pure translation, have R w = v modulo n
+  -- of a member with the translation part v = Q w0, exactly the w0 + t modulo n, t a pure translation, have Q w = v modulo n
   pub made : (v start w : Triple) → IsWithinCell n v → image r start ≡ v → IsWithinCell n w → (modulo n (image r w) ≡ v) ↔ IsMade n translations start w
   made v start w hv e hw = (down, up)
     where
@@ -71,7 +71,7 @@ module _ (n : ℕ) (translations : List Operation) (r : Matrix) (some : pos 0 <�
           let from : DiffersByCells n (image r (sum_of start m.pure_part)) v = record { cells = d.cells; is = image-sum_of r start m.pure_part ∙ (λ i. sum_of (e i) (d.is i)) } in
           translations_same n (modulo n (image r w)) v (modulo_within n (image r w) some) hv (differs_trans (differs_sym (modulo_away n (image r w) some)) (differs_trans there from))
 
-  -- V R = R W exactly where index · W = fore · (V · R)
+  -- V Q = Q W exactly where index · W = fore · (V · Q)
   pub turned_by_fore : (v w : Matrix) → (product v r ≡ product r w) ↔ (product (adjugate r) (product v r) ≡ matrix_multiple (determinant r) w)
   turned_by_fore v w = (
     (λ e. same_images (product (adjugate r) (product v r)) (matrix_multiple (determinant r) w) (λ t. image-product (adjugate r) (product v r) t ∙ ap (λ m. image (adjugate r) (image m t)) e ∙ ap (image (adjugate r)) (image-product r w t) ∙ image-adjugate r (image w t) ∙ sym (image-matrix_multiple (determinant r) w t))),
@@ -79,14 +79,14 @@ module _ (n : ℕ) (translations : List Operation) (r : Matrix) (some : pos 0 <�
         (sym (image-image_adjugate r (image (product v r) t)) ∙ ap (image r) (sym (image-product (adjugate r) (product v r) t) ∙ ap (λ m. image m t) e ∙ image-matrix_multiple (determinant r) w t) ∙ image-multiple r (determinant r) (image w t) ∙ ap (multiple (determinant r)) (sym (image-product r w t))))),
   )
 
-  -- R w0 = v exactly where index · w0 = fore · v
+  -- Q w0 = v exactly where index · w0 = fore · v
   pub started_by_fore : (v start : Triple) → (image r start ≡ v) ↔ (image (adjugate r) v ≡ multiple (determinant r) start)
   started_by_fore v start = (
     (λ e. ap (image (adjugate r)) (sym e) ∙ image-adjugate r start),
     (λ e. multiple_cancel (determinant r) (image r start) v r_above (sym (image-multiple r (determinant r) start) ∙ ap (image r) (sym e) ∙ image-image_adjugate r v)),
   )
 
-  -- where R takes a translation part of the cell to v modulo n, v is the image of some triple
+  -- where Q takes a translation part of the cell to v modulo n, v is the image of some triple
   pub starts : (v w : Triple) → modulo n (image r w) ≡ v → (start : Triple) × (image r start ≡ v)
   starts v w f =
       let d : DiffersByCells n (image r w) v = differs_at refl f (modulo_away n (image r w) some) in
@@ -96,7 +96,7 @@ module _ (n : ℕ) (translations : List Operation) (r : Matrix) (some : pos 0 <�
             (ap (sum_of (image r (sum_of w (multiple (negsuc 0) (image k.steps d.cells))))) (sym step) ∙ sym (image-sum_of r (sum_of w (multiple (negsuc 0) (image k.steps d.cells))) (image k.steps d.cells)) ∙ ap (image r) (subtract_add w (image k.steps d.cells)) ∙ d.is),
       )
 
--- What is computed of a member (V, v, s) of the list of the primitive cell: W = fore · V R / index where that is of
+-- What is computed of a member (V, v, s) of the list of the primitive cell: W = fore · V Q / index where that is of
 -- integers, and w0 = fore · v / index where that is; and a translation part that a pure translation makes of w0.
 pub record IsBrought (n index : ℕ) (r fore : Matrix) (translations os : List Operation) (o : Operation) : Type 0 where
   pub member : Operation

@@ -5,7 +5,7 @@ use Rattle.lists.specs.Increasing.{IsMember}
 use Rattle.crystal_spec.specs.Matrices.{Triple, sum_of, Matrix, product, determinant, adjugate, identity}
 use Rattle.basis_spec.specs.Metrics.{matrix_multiple}
 use Rattle.crystal_spec.specs.Moments.{axial_vectors, turn_matrix}
-use Rattle.crystal_spec.specs.Crystals.{Site, Structure}
+use Rattle.crystal_spec.specs.Crystals.{Atom, Structure}
 use Rattle.crystal_spec.specs.Operations.{IsWithinCell, Operation}
 use Rattle.crystal_spec.specs.Cells.{HasOneAtomEach, IsCell}
 use Rattle.basis_spec.specs.Translations.{pure_translation}
@@ -26,7 +26,7 @@ centred = record {
   n = 2;
   k = 1;
   kind = axial_vectors;
-  sites = record { species = 0; position = triple (pos 0) (pos 0) (pos 0); moment = triple (pos 0) (pos 0) (pos 1) } ∷ record { species = 0; position = triple (pos 1) (pos 1) (pos 1); moment = triple (pos 0) (pos 0) (pos 1) } ∷ [];
+  atoms = record { species = 0; position = triple (pos 0) (pos 0) (pos 0); moment = triple (pos 0) (pos 0) (pos 1) } ∷ record { species = 0; position = triple (pos 1) (pos 1) (pos 1); moment = triple (pos 0) (pos 0) (pos 1) } ∷ [];
 }
 
 basis : Matrix
@@ -55,7 +55,7 @@ primitive_cell : cell_in_basis centred back ≡ record {
   n = 2;
   k = 1;
   kind = axial_vectors;
-  sites = record { species = 0; position = triple (pos 0) (pos 0) (pos 0); moment = triple (negsuc 0) (negsuc 0) (pos 2) } ∷ [];
+  atoms = record { species = 0; position = triple (pos 0) (pos 0) (pos 0); moment = triple (negsuc 0) (negsuc 0) (pos 2) } ∷ [];
 }
 unfolding cell_in_basis turn_matrix centred back rows modulo
 primitive_cell = refl
@@ -70,9 +70,9 @@ other_half k e = omega (arith, ints, e)
 one_each : HasOneAtomEach centred
 unfolding centred
 one_each a b (inl e) (inl f) d = e ∙ sym f
-one_each a b (inl e) (inr (inl f)) d = absurd (half_apart d.cells.x (sym (ap (λ (x : Site). x.position.x) e) ∙ ap (λ (v : Triple). v.x) d.is ∙ ap (λ (x : Site). x.position.x +ℤ pos 2 *ℤ d.cells.x) f))
+one_each a b (inl e) (inr (inl f)) d = absurd (half_apart d.cells.x (sym (ap (λ (x : Atom). x.position.x) e) ∙ ap (λ (v : Triple). v.x) d.is ∙ ap (λ (x : Atom). x.position.x +ℤ pos 2 *ℤ d.cells.x) f))
 one_each a b (inl e) (inr (inr m)) d = absurd m
-one_each a b (inr (inl e)) (inl f) d = absurd (other_half d.cells.x (sym (ap (λ (x : Site). x.position.x) e) ∙ ap (λ (v : Triple). v.x) d.is ∙ ap (λ (x : Site). x.position.x +ℤ pos 2 *ℤ d.cells.x) f))
+one_each a b (inr (inl e)) (inl f) d = absurd (other_half d.cells.x (sym (ap (λ (x : Atom). x.position.x) e) ∙ ap (λ (v : Triple). v.x) d.is ∙ ap (λ (x : Atom). x.position.x +ℤ pos 2 *ℤ d.cells.x) f))
 one_each a b (inr (inl e)) (inr (inl f)) d = e ∙ sym f
 one_each a b (inr (inl e)) (inr (inr m)) d = absurd m
 one_each a b (inr (inr m)) k d = absurd m
@@ -99,17 +99,17 @@ centred_is_cell = record {
   one_atom_each = one_each;
 }
   where
-    corner : Site
+    corner : Atom
     corner = record { species = 0; position = triple (pos 0) (pos 0) (pos 0); moment = triple (pos 0) (pos 0) (pos 1) }
 
-    named : (a : Site) → IsMember a centred.sites → a.species < length centred.names
-    named a (inl e) = subst (λ (x : Site). x.species < 1) (sym e) (omega arith)
-    named a (inr (inl e)) = subst (λ (x : Site). x.species < 1) (sym e) (omega arith)
+    named : (a : Atom) → IsMember a centred.atoms → a.species < length centred.names
+    named a (inl e) = subst (λ (x : Atom). x.species < 1) (sym e) (omega arith)
+    named a (inr (inl e)) = subst (λ (x : Atom). x.species < 1) (sym e) (omega arith)
     named a (inr (inr m)) = absurd m
 
-    within : (a : Site) → IsMember a centred.sites → IsWithinCell 2 a.position
-    within a (inl e) = subst (λ (x : Site). IsWithinCell 2 x.position) (sym e) (record { x = zero_within; y = zero_within; z = zero_within })
-    within a (inr (inl e)) = subst (λ (x : Site). IsWithinCell 2 x.position) (sym e) (record { x = one_within; y = one_within; z = one_within })
+    within : (a : Atom) → IsMember a centred.atoms → IsWithinCell 2 a.position
+    within a (inl e) = subst (λ (x : Atom). IsWithinCell 2 x.position) (sym e) (record { x = zero_within; y = zero_within; z = zero_within })
+    within a (inr (inl e)) = subst (λ (x : Atom). IsWithinCell 2 x.position) (sym e) (record { x = one_within; y = one_within; z = one_within })
     within a (inr (inr m)) = absurd m
 
 -- ---- the lattice of its two pure translations

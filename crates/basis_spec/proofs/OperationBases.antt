@@ -1,9 +1,9 @@
 -- What keeps a crystal, in one basis and in another.
 --
--- Let R take coordinates to the other basis. Where an integer V with V R = R W keeps the crystal there, W keeps it here:
--- multiply out and cancel R. Conversely, let W keep the crystal, and let the other cell be primitive. Whole cells there
--- are images of translations t, so R times the matrix of these is n. W takes them to translations, and R takes these to
--- whole cells, since the other cell is primitive: R W steps = n V, so V R = R W. No reduced basis is used.
+-- Let Q take coordinates to the other basis. Where an integer V with V Q = Q W keeps the crystal there, W keeps it here:
+-- multiply out and cancel Q. Conversely, let W keep the crystal, and let the other cell be primitive. Whole cells there
+-- are images of translations t, so Q times the matrix of these is n. W takes them to translations, and Q takes these to
+-- whole cells, since the other cell is primitive: Q W steps = n V, so V Q = Q W. No reduced basis is used.
 use Rattle.std.proofs.Common.{◌≡◌, ℕ, ℤ, pos, negsuc, ◌*ℤ◌, ◌≤ℤ◌, ◌<ℤ◌, [], ◌∷◌, refl, sym, ap, subst, ◌∙◌, arith}
 use Rattle.std.proofs.lemmas.Int.{ints}
 use Rattle.ring.specs.Ring.{var, ◌:*◌}
@@ -21,7 +21,7 @@ use Rattle.crystal_spec.proofs.Identities.{by_integers}
 use Rattle.crystal_spec.proofs.Isometries.{cancel_image, determinant-isometry, determinant-product}
 use Rattle.crystal_spec.proofs.Moments.{cancel_moment, moment_after-turned}
 
--- the map of the other basis that (w, translation, sign) is: an integer V with V R = R W, and the translation R w
+-- the map of the other basis that (w, translation, sign) is: an integer V with V Q = Q W, and the translation Q w
 pub record KeepsThere (c' : Structure) (r : Matrix) (w : Matrix) (translation : Triple) (sign : ℤ) : Type 0 where
   pub matrix : Matrix
   pub turned : product matrix r ≡ product r w
@@ -129,18 +129,18 @@ module _ (c c' : Structure) (r : Matrix) (same : SameCrystal c c' r) where
               sum_cancel (image r t) (multiple (pos c'.n) y) (image r p) (sym (image-sum_of r t p) ∙ ap (image r) (subtract_add f.old_position p) ∙ f.position_is ∙ sum_comm (image r p) (multiple (pos c'.n) y))),
         )
 
-    -- the basis of the translations: R times it is n
+    -- the basis of the translations: Q times it is n
     pub steps : Factor (matrix_multiple (pos c.n) identity) r
     steps = factor (matrix_multiple (pos c.n) identity) r from_cells
 
     times_n : (y : Triple) → image (matrix_multiple (pos c.n) identity) y ≡ multiple (pos c.n) y
     times_n y = image-matrix_multiple (pos c.n) identity y ∙ ap (multiple (pos c.n)) (image-identity y)
 
-    -- R times the basis of the translations is n
+    -- Q times the basis of the translations is n
     pub steps_there : (y : Triple) → image r (image steps.matrix y) ≡ multiple (pos c.n) y
     steps_there y = sym (image-product r steps.matrix y) ∙ ap (λ a. image a y) (sym steps.is) ∙ times_n y
 
-    -- and so is that basis times R
+    -- and so is that basis times Q
     pub steps_back : (t : Triple) → image steps.matrix (image r t) ≡ multiple (pos c.n) t
     steps_back t = image_cancel r (image steps.matrix (image r t)) (multiple (pos c.n) t) r_above (steps_there (image r t) ∙ sym (image-multiple r (pos c.n) t))
 

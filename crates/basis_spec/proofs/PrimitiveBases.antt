@@ -11,7 +11,7 @@ use Rattle.ring.specs.Ring.{var, con, ◌:*◌}
 use Rattle.lists.specs.Increasing.{IsMember}
 use Rattle.lists.proofs.Members.{mapped_from, mapped_member}
 use Rattle.crystal_spec.specs.Matrices.{Triple, Matrix, product, image, determinant, adjugate, identity}
-use Rattle.crystal_spec.specs.Crystals.{Site, Structure}
+use Rattle.crystal_spec.specs.Crystals.{Atom, Structure}
 use Rattle.crystal_spec.specs.Operations.{Operation}
 use Rattle.crystal_spec.specs.Cells.{IsCell}
 use Rattle.crystal_spec.proofs.Identities.{by_integers}
@@ -20,7 +20,7 @@ use Rattle.crystal_spec.proofs.Isometries.{determinant-product}
 use Rattle.positions.specs.Positions.{triple}
 use Rattle.basis_spec.specs.Metrics.{matrix_multiple}
 use Rattle.basis_spec.specs.Translations.{IsTranslation, ListsPureTranslations}
-use Rattle.basis_spec.specs.Bases.{IsBack, IsPrimitiveIn, cell_in_basis, first_at_each_position, site_in_basis}
+use Rattle.basis_spec.specs.Bases.{IsBack, IsPrimitiveIn, cell_in_basis, first_at_each_position, in_basis}
 use Rattle.basis_spec.specs.StepBases.{IsStepBasis, IsSteps, InLattice}
 use Rattle.basis_spec.proofs.MatrixLaws.{product_assoc, image-product, image-identity, same_images}
 use Rattle.basis_spec.proofs.OperationBases.{at_least_one}
@@ -66,7 +66,7 @@ step_basis_of P Q same b s = record {
 
 -- ---- the primitive cell
 
--- What holds of a change of basis R to a primitive cell: the cell in that basis is the same crystal and primitive, R takes
+-- What holds of a change of basis Q to a primitive cell: the cell in that basis is the same crystal and primitive, Q takes
 -- coordinates to a basis of the lattice of the pure translations os, and its determinant is the index, their number.
 pub record IsPrimitiveBasis (c : Structure) (os : List Operation) (index : ℕ) (r : Matrix) : Type 0 where
   pub primitive : IsPrimitiveIn c r
@@ -121,21 +121,21 @@ fore_then index fore back base q f e =
 -- ---- the cell in another basis is a cell
 
 -- its atoms are of named species
-named_in_basis : (c : Structure) (r : Matrix) → IsCell c → (a : Site) → IsMember a (first_at_each_position (map (site_in_basis c.n c.kind r) c.sites)) → a.species < length c.names
+named_in_basis : (c : Structure) (r : Matrix) → IsCell c → (a : Atom) → IsMember a (first_at_each_position (map (in_basis c.n c.kind r) c.atoms)) → a.species < length c.names
 named_in_basis c r cell a m =
-    let f = mapped_from (site_in_basis c.n c.kind r) a c.sites (member_of_firsts a (map (site_in_basis c.n c.kind r) c.sites) m) in
-    subst (λ (s : ℕ). s < length c.names) (sym (ap (λ (x : Site). x.species) f.is)) (cell.named f.item f.of_list)
+    let f = mapped_from (in_basis c.n c.kind r) a c.atoms (member_of_firsts a (map (in_basis c.n c.kind r) c.atoms) m) in
+    subst (λ (s : ℕ). s < length c.names) (sym (ap (λ (x : Atom). x.species) f.is)) (cell.named f.item f.of_list)
 
 -- the metric tensor is symmetric and positive, and no two atoms are at one position
 pub cell_in_basis_is_cell : (c : Structure) (r : Matrix) → IsCell c → pos 1 ≤ℤ determinant r → IsCell (cell_in_basis c r)
 unfolding cell_in_basis
 cell_in_basis_is_cell c r cell up =
-    let f = stands_for (site_in_basis c.n c.kind r cell.first) (map (site_in_basis c.n c.kind r) c.sites) (mapped_member (site_in_basis c.n c.kind r) cell.first c.sites cell.of_cell) in
+    let f = stands_for (in_basis c.n c.kind r cell.first) (map (in_basis c.n c.kind r) c.atoms) (mapped_member (in_basis c.n c.kind r) cell.first c.atoms cell.of_cell) in
     record {
       symmetric = symmetric_metric_in (adjugate r) c.metric cell.symmetric;
       positive = positive_adjugate r c.metric cell.symmetric cell.positive (at_least_one (determinant r) up);
       some_cells = cell.some_cells;
-      first = f.site;
+      first = f.atom;
       of_cell = f.of_list;
       named = named_in_basis c r cell;
       within = position_within c r cell.some_cells;

@@ -1,23 +1,23 @@
 -- The cell in a basis of all translations is the same crystal, and primitive.
 --
--- Let R take coordinates to a basis of the translations of a crystal. Two atoms that R brings to one position, but for
+-- Let Q take coordinates to a basis of the translations of a crystal. Two atoms that Q brings to one position, but for
 -- whole cells, differ by a translation; so the one is where the other is brought, and since one atom is at a position they
 -- have one species and one moment. So it does not matter which of them is kept: the atoms in the other basis are exactly
--- the images. A translation u there is R t, where t is a translation here; so u is whole cells.
+-- the images. A translation u there is Q t, where t is a translation here; so u is whole cells.
 use Rattle.std.proofs.Common.{◌≡◌, ℕ, pos, negsuc, ◌<ℤ◌, map, refl, sym, ap, subst, ◌∙◌}
 use Rattle.lists.specs.Increasing.{IsMember}
 use Rattle.lists.proofs.Members.{mapped_from, mapped_member}
 use Rattle.crystal_spec.specs.Matrices.{Triple, Matrix, image, determinant, multiple, sum_of, identity}
 use Rattle.positions.specs.Positions.{origin, modulo}
 use Rattle.crystal_spec.specs.Moments.{turn_matrix}
-use Rattle.crystal_spec.specs.Crystals.{Site, Structure, Occupied}
+use Rattle.crystal_spec.specs.Crystals.{Atom, Structure, Occupied}
 use Rattle.crystal_spec.specs.Cells.{DiffersByCells, HasOneAtomEach}
 use Rattle.basis_spec.specs.Translations.{IsTranslation, IsPrimitive, HasOnlyWholeCells}
 use Rattle.basis_spec.specs.Bases.{ComesFrom, SameCrystal, IsBack}
-use Rattle.basis_spec.specs.Bases.{site_in_basis, cell_in_basis}
+use Rattle.basis_spec.specs.Bases.{in_basis, cell_in_basis}
 use Rattle.basis_spec.proofs.MatrixLaws.{image-identity, image-multiple, image-sum_of, image-product, image-matrix_multiple, multiple_swap, multiple-origin, multiple-sum_of, sum_of-origin, sum_assoc, sum_comm, add_subtract, subtract_add, add_difference, metric_in-metric_in_adjugate}
 use Rattle.basis_spec.proofs.Cancelling.{sum_cancel, image_cancel}
-use Rattle.basis_spec.proofs.Translations.{site_away, occupied_as, is_translation, moves, moves_back}
+use Rattle.basis_spec.proofs.Translations.{atom_away, occupied_as, is_translation, moves, moves_back}
 use Rattle.positions.proofs.Residues.{modulo_away, modulo_within, cells_within}
 use Rattle.basis_spec.proofs.FirstAtoms.{member_of_firsts, stands_for}
 use Rattle.basis_spec.proofs.OperationBases.{at_least_one, cells_translation, translation_here}
@@ -54,36 +54,36 @@ differs_itself n p = record { cells = origin; is = sym (ap (sum_of p) (multiple-
 -- ---- the cell in another basis
 module _ (c : Structure) (r : Matrix) (some_cells : pos 0 <ℤ pos c.n) (b : IsBack c.n (IsTranslation c) r) where
   -- an atom of the primitive cell, and one of the cell that gives it
-  record Given (site : Site) : Type 0 where
-    atom : Site
-    of_cell : IsMember atom c.sites
-    species : site.species ≡ atom.species
-    moment : site.moment ≡ image (turn_matrix c.kind r) atom.moment
-    position : DiffersByCells c.n site.position (image r atom.position)
+  record Given (moved : Atom) : Type 0 where
+    atom : Atom
+    of_cell : IsMember atom c.atoms
+    species : moved.species ≡ atom.species
+    moment : moved.moment ≡ image (turn_matrix c.kind r) atom.moment
+    position : DiffersByCells c.n moved.position (image r atom.position)
 
-  given : (site : Site) → IsMember site (cell_in_basis c r).sites → Given site
+  given : (atom : Atom) → IsMember atom (cell_in_basis c r).atoms → Given atom
   unfolding cell_in_basis
-  given site h =
-      let f = mapped_from (site_in_basis c.n c.kind r) site c.sites (member_of_firsts site (map (site_in_basis c.n c.kind r) c.sites) h) in
+  given atom h =
+      let f = mapped_from (in_basis c.n c.kind r) atom c.atoms (member_of_firsts atom (map (in_basis c.n c.kind r) c.atoms) h) in
       record {
         atom = f.item;
         of_cell = f.of_list;
-        species = ap (λ (a : Site). a.species) f.is;
-        moment = ap (λ (a : Site). a.moment) f.is;
-        position = differs_at (sym (ap (λ (a : Site). a.position) f.is)) refl (differs_sym (modulo_away c.n (image r f.item.position) some_cells));
+        species = ap (λ (a : Atom). a.species) f.is;
+        moment = ap (λ (a : Atom). a.moment) f.is;
+        position = differs_at (sym (ap (λ (a : Atom). a.position) f.is)) refl (differs_sym (modulo_away c.n (image r f.item.position) some_cells));
       }
 
   -- the atom of the primitive cell at a's position
-  record Taken (a : Site) : Type 0 where
-    site : Site
-    of_primitive : IsMember site (cell_in_basis c r).sites
-    position : DiffersByCells c.n (image r a.position) site.position
+  record Taken (a : Atom) : Type 0 where
+    atom : Atom
+    of_primitive : IsMember atom (cell_in_basis c r).atoms
+    position : DiffersByCells c.n (image r a.position) atom.position
 
-  taken : (a : Site) → IsMember a c.sites → Taken a
+  taken : (a : Atom) → IsMember a c.atoms → Taken a
   unfolding cell_in_basis
   taken a h =
-      let f = stands_for (site_in_basis c.n c.kind r a) (map (site_in_basis c.n c.kind r) c.sites) (mapped_member (site_in_basis c.n c.kind r) a c.sites h) in
-      record { site = f.site; of_primitive = f.of_list; position = differs_at refl (sym f.same_position) (modulo_away c.n (image r a.position) some_cells) }
+      let f = stands_for (in_basis c.n c.kind r a) (map (in_basis c.n c.kind r) c.atoms) (mapped_member (in_basis c.n c.kind r) a c.atoms h) in
+      record { atom = f.atom; of_primitive = f.of_list; position = differs_at refl (sym f.same_position) (modulo_away c.n (image r a.position) some_cells) }
 
   n_is : (cell_in_basis c r).n ≡ c.n
   unfolding cell_in_basis
@@ -98,8 +98,8 @@ module _ (c : Structure) (r : Matrix) (some_cells : pos 0 <ℤ pos c.n) (b : IsB
 
   onto : (s : ℕ) (q l : Triple) → Occupied (cell_in_basis c r) s q l → ComesFrom c r s q l
   onto s q l o =
-      let g = given o.site o.of_cell in
-      let d : DiffersByCells c.n q (image r g.atom.position) = differs_trans (subst (λ (n : ℕ). DiffersByCells n q o.site.position) n_is (site_away o)) g.position in
+      let g = given o.atom o.of_cell in
+      let d : DiffersByCells c.n q (image r g.atom.position) = differs_trans (subst (λ (n : ℕ). DiffersByCells n q o.atom.position) n_is (atom_away o)) g.position in
       record {
         old_position = sum_of g.atom.position (image b.steps d.cells);
         old_moment = g.atom.moment;
@@ -118,23 +118,23 @@ module _ (c : Structure) (r : Matrix) (some_cells : pos 0 <ℤ pos c.n) (b : IsB
       occupied_as c s (image_cancel r f.old_position p r_above f.position_is) (image_cancel (turn_matrix c.kind r) f.old_moment m (turn-positive c.kind r r_above) f.moment_is) f.occupied
 
   -- two atoms at one position there have one species and one moment
-  alike : HasOneAtomEach c → (a a' : Site) → IsMember a c.sites → IsMember a' c.sites → DiffersByCells c.n (image r a'.position) (image r a.position) → (a'.species ≡ a.species) × (a'.moment ≡ a.moment)
+  alike : HasOneAtomEach c → (a a' : Atom) → IsMember a c.atoms → IsMember a' c.atoms → DiffersByCells c.n (image r a'.position) (image r a.position) → (a'.species ≡ a.species) × (a'.moment ≡ a.moment)
   alike one a a' h h' d =
       let t = sum_of a'.position (multiple (negsuc 0) a.position) in
       let whole : image r t ≡ multiple (pos c.n) d.cells =
       sum_cancel (image r t) (multiple (pos c.n) d.cells) (image r a.position) (sym (image-sum_of r t a.position) ∙ ap (image r) (subtract_add a'.position a.position) ∙ d.is ∙ sum_comm (image r a.position) (multiple (pos c.n) d.cells)) in
       let o = moves c t ((b.exact t).1 (record { cells = d.cells; is = whole })) a.species a.position a.moment (occupied_itself c a h) in
-      let same = one a' o.site h' o.of_cell (differs_at (add_difference a'.position a.position) refl (site_away o)) in
-      (ap (λ (x : Site). x.species) same ∙ o.same_species, ap (λ (x : Site). x.moment) same ∙ o.same_moment)
+      let same = one a' o.atom h' o.of_cell (differs_at (add_difference a'.position a.position) refl (atom_away o)) in
+      (ap (λ (x : Atom). x.species) same ∙ o.same_species, ap (λ (x : Atom). x.moment) same ∙ o.same_moment)
 
   there : HasOneAtomEach c → (s : ℕ) (p m : Triple) → Occupied c s p m → Occupied (cell_in_basis c r) s (image r p) (image (turn_matrix c.kind r) m)
   there one s p m o =
-      let f = taken o.site o.of_cell in
-      let g = given f.site f.of_primitive in
-      let same = alike one o.site g.atom o.of_cell g.of_cell (differs_sym (differs_trans f.position g.position)) in
-      let away = subst (λ (n : ℕ). DiffersByCells n (image r p) f.site.position) (sym n_is) (differs_trans (differs_applied r (site_away o)) f.position) in
+      let f = taken o.atom o.of_cell in
+      let g = given f.atom f.of_primitive in
+      let same = alike one o.atom g.atom o.of_cell g.of_cell (differs_sym (differs_trans f.position g.position)) in
+      let away = subst (λ (n : ℕ). DiffersByCells n (image r p) f.atom.position) (sym n_is) (differs_trans (differs_applied r (atom_away o)) f.position) in
       record {
-        site = f.site;
+        atom = f.atom;
         of_cell = f.of_primitive;
         same_species = g.species ∙ same.0 ∙ o.same_species;
         same_moment = g.moment ∙ ap (image (turn_matrix c.kind r)) (same.1 ∙ o.same_moment);

@@ -10,14 +10,15 @@ use Rattle.lists.proofs.Distinct.{IsDistinct-mapped}
 use Rattle.lists.proofs.Counting.{length_le}
 use Rattle.crystal_spec.specs.Matrices.{Triple, multiple, sum_of}
 use Rattle.positions.specs.Positions.{origin, modulo}
-use Rattle.crystal_spec.specs.Crystals.{Site, Structure}
-use Rattle.basis_spec.specs.Translations.{IsTranslation, IsPureTranslation, of_species, IsRarest}
+use Rattle.crystal_spec.specs.Crystals.{Atom, Structure}
+use Rattle.basis_spec.specs.Translations.{IsTranslation, IsPureTranslation}
+use Rattle.crystal_spec.specs.Species.{of_species, IsRarest}
 use Rattle.crystal_spec.specs.Operations.{IsWithinCell}
 use Rattle.crystal_spec.specs.Cells.{DiffersByCells}
 use Rattle.crystal_spec.proofs.Entrywise.{triple_same}
 use Rattle.basis_spec.proofs.MatrixLaws.{sum_comm, sum_assoc, multiple-origin}
 use Rattle.basis_spec.proofs.Cancelling.{sum_cancel}
-use Rattle.basis_spec.proofs.Translations.{site_away, moves}
+use Rattle.basis_spec.proofs.Translations.{atom_away, moves}
 use Rattle.positions.proofs.Residues.{modulo_away, modulo_within}
 use Rattle.basis_spec.proofs.OperationBases.{cells_translation}
 use Rattle.basis_spec.proofs.PrimitiveCell.{differs_sym, differs_trans, differs_at, translation_sum, residue_translation}
@@ -50,20 +51,20 @@ pure_zero c h = record { translation = record { x = zero_within c.n h; y = zero_
 pub pure_sum : (c : Structure) (t u : Triple) → pos 0 <ℤ pos c.n → IsPureTranslation c t → IsPureTranslation c u → IsPureTranslation c (modulo c.n (sum_of t u))
 pure_sum c t u h p q = record { translation = modulo_within c.n (sum_of t u) h; keeps = residue_translation c (sum_of t u) h (translation_sum c t u p.keeps q.keeps) }
 
-of_species_member : (s : ℕ) (a : Site) (sites : List Site) → IsMember a sites → a.species ≡ s → IsMember a (of_species s sites)
+of_species_member : (s : ℕ) (a : Atom) (atoms : List Atom) → IsMember a atoms → a.species ≡ s → IsMember a (of_species s atoms)
 of_species_member s a [] m e = m
-of_species_member s a (b ∷ sites) (inl f) e = by (eqb b.species s) refl
+of_species_member s a (b ∷ atoms) (inl f) e = by (eqb b.species s) refl
   where
-    by : (w : Bool) → eqb b.species s ≡ w → IsMember a (elim w [ true ↦ b ∷ of_species s sites | false ↦ of_species s sites ])
+    by : (w : Bool) → eqb b.species s ≡ w → IsMember a (elim w [ true ↦ b ∷ of_species s atoms | false ↦ of_species s atoms ])
     by true g = inl f
-    by false g = absurd (cc (sym g ∙ (Decides-eqb b.species s).1 (ap (λ (x : Site). x.species) (sym f) ∙ e)))
-of_species_member s a (b ∷ sites) (inr m) e = by (eqb b.species s) (of_species_member s a sites m e)
+    by false g = absurd (cc (sym g ∙ (Decides-eqb b.species s).1 (ap (λ (x : Atom). x.species) (sym f) ∙ e)))
+of_species_member s a (b ∷ atoms) (inr m) e = by (eqb b.species s) (of_species_member s a atoms m e)
   where
-    by : (w : Bool) → IsMember a (of_species s sites) → IsMember a (elim w [ true ↦ b ∷ of_species s sites | false ↦ of_species s sites ])
+    by : (w : Bool) → IsMember a (of_species s atoms) → IsMember a (elim w [ true ↦ b ∷ of_species s atoms | false ↦ of_species s atoms ])
     by true h = inr h
     by false h = h
 
-module _ (c : Structure) (some : pos 0 <ℤ pos c.n) (a : Site) (of_cell : IsMember a c.sites) where
+module _ (c : Structure) (some : pos 0 <ℤ pos c.n) (a : Atom) (of_cell : IsMember a c.atoms) where
   carried : Triple → Triple
   carried t = modulo c.n (sum_of a.position t)
 
@@ -74,26 +75,26 @@ module _ (c : Structure) (some : pos 0 <ℤ pos c.n) (a : Site) (of_cell : IsMem
   unfolding carried
   carried_apart t u h k e = translations_same c.n t u h k (moved_apart t u (differs_trans (modulo_away c.n (sum_of a.position t) some) (differs_at (sym e) refl (differs_sym (modulo_away c.n (sum_of a.position u) some)))))
 
-  carried_there : (t : Triple) → IsPureTranslation c t → IsMember (carried t) (map (λ (b : Site). modulo c.n b.position) (of_species a.species c.sites))
+  carried_there : (t : Triple) → IsPureTranslation c t → IsMember (carried t) (map (λ (b : Atom). modulo c.n b.position) (of_species a.species c.atoms))
   unfolding carried
   carried_there t h =
       let o = moves c t h.keeps a.species a.position a.moment (occupied_itself c a of_cell) in
-      subst (λ (v : Triple). IsMember v (map (λ (b : Site). modulo c.n b.position) (of_species a.species c.sites))) (sym (residues_same c.n (sum_of a.position t) o.site.position some (site_away o)))
-      (mapped_member (λ (b : Site). modulo c.n b.position) o.site (of_species a.species c.sites) (of_species_member a.species o.site c.sites o.of_cell o.same_species))
+      subst (λ (v : Triple). IsMember v (map (λ (b : Atom). modulo c.n b.position) (of_species a.species c.atoms))) (sym (residues_same c.n (sum_of a.position t) o.atom.position some (atom_away o)))
+      (mapped_member (λ (b : Atom). modulo c.n b.position) o.atom (of_species a.species c.atoms) (of_species_member a.species o.atom c.atoms o.of_cell o.same_species))
 
   -- no more pure translations than atoms of any species
-  pub few_translations : (ws : List Triple) → IsDistinct ws → ((t : Triple) → IsMember t ws → IsPureTranslation c t) → length ws ≤ length (of_species a.species c.sites)
+  pub few_translations : (ws : List Triple) → IsDistinct ws → ((t : Triple) → IsMember t ws → IsPureTranslation c t) → length ws ≤ length (of_species a.species c.atoms)
   few_translations ws once pure =
-      let fit : length (map carried ws) ≤ length (map (λ (b : Site). modulo c.n b.position) (of_species a.species c.sites)) =
-      length_le (map carried ws) (map (λ (b : Site). modulo c.n b.position) (of_species a.species c.sites))
+      let fit : length (map carried ws) ≤ length (map (λ (b : Atom). modulo c.n b.position) (of_species a.species c.atoms)) =
+      length_le (map carried ws) (map (λ (b : Atom). modulo c.n b.position) (of_species a.species c.atoms))
       (IsDistinct-mapped carried ws once (λ t u m k e. carried_apart t u (pure t m).translation (pure u k).translation e))
       there in
       let m = length-map ws carried in
-      let k = length-map (of_species a.species c.sites) (λ (b : Site). modulo c.n b.position) in
+      let k = length-map (of_species a.species c.atoms) (λ (b : Atom). modulo c.n b.position) in
       omega arith
     where
-      there : (z : Triple) → IsMember z (map carried ws) → IsMember z (map (λ (b : Site). modulo c.n b.position) (of_species a.species c.sites))
-      there z m = let r = mapped_from carried z ws m in subst (λ (v : Triple). IsMember v (map (λ (b : Site). modulo c.n b.position) (of_species a.species c.sites))) (sym r.is) (carried_there r.item (pure r.item r.of_list))
+      there : (z : Triple) → IsMember z (map carried ws) → IsMember z (map (λ (b : Atom). modulo c.n b.position) (of_species a.species c.atoms))
+      there z m = let r = mapped_from carried z ws m in subst (λ (v : Triple). IsMember v (map (λ (b : Atom). modulo c.n b.position) (of_species a.species c.atoms))) (sym r.is) (carried_there r.item (pure r.item r.of_list))
 
 -- so there are at most as many as the rarest species has atoms
 pub rarest_translations : (c : Structure) (count : ℕ) → pos 0 <ℤ pos c.n → IsRarest c count → (ws : List Triple) → IsDistinct ws → ((t : Triple) → IsMember t ws → IsPureTranslation c t) → length ws ≤ count

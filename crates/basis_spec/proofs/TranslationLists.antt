@@ -14,7 +14,8 @@ use Rattle.crystal_spec.specs.Crystals.{Structure}
 use Rattle.crystal_spec.specs.Operations.{Operation, compare_of, IsWithinCell, IsSymmetryOperation}
 use Rattle.crystal_spec.proofs.Ordered.{compare_total}
 use Rattle.positions.specs.Positions.{origin, modulo}
-use Rattle.basis_spec.specs.Translations.{IsTranslation, IsPureTranslation, pure_translation, ListsPureTranslations, IsRarest}
+use Rattle.basis_spec.specs.Translations.{IsTranslation, IsPureTranslation, pure_translation, ListsPureTranslations}
+use Rattle.crystal_spec.specs.Species.{IsRarest}
 use Rattle.basis_spec.specs.StepBases.{InLattice, IsClosed}
 use Rattle.positions.proofs.Residues.{modulo_away, modulo_within}
 use Rattle.basis_spec.proofs.OperationBases.{cells_translation}

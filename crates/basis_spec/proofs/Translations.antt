@@ -17,19 +17,19 @@ pub occupied_as : (c : Structure) (s : ℕ) {p q m l : Triple} → p ≡ q → m
 occupied_as c s {p} {q} {m} {l} e f o = subst (λ (v : Triple). Occupied c s q v) f (subst (λ (v : Triple). Occupied c s v m) e o)
 
 -- an occupied position is whole cells away from an atom of the cell
-pub site_away : {c : Structure} {s : ℕ} {p m : Triple} (o : Occupied c s p m) → DiffersByCells c.n p o.site.position
-site_away o = record { cells = o.cells; is = o.same_position }
+pub atom_away : {c : Structure} {s : ℕ} {p m : Triple} (o : Occupied c s p m) → DiffersByCells c.n p o.atom.position
+atom_away o = record { cells = o.cells; is = o.same_position }
 
 -- an atom is at all positions that are whole cells away
 pub occupied_away : (c : Structure) (s : ℕ) (p m d : Triple) → Occupied c s p m → Occupied c s (sum_of p (multiple (pos c.n) d)) m
 occupied_away c s p m d o = record {
-  site = o.site;
+  atom = o.atom;
   of_cell = o.of_cell;
   same_species = o.same_species;
   same_moment = o.same_moment;
   cells = sum_of o.cells d;
-  same_position = ap (λ v. sum_of v (multiple (pos c.n) d)) o.same_position ∙ sum_assoc o.site.position (multiple (pos c.n) o.cells) (multiple (pos c.n) d)
-      ∙ ap (sum_of o.site.position) (sym (multiple-sum_of (pos c.n) o.cells d));
+  same_position = ap (λ v. sum_of v (multiple (pos c.n) d)) o.same_position ∙ sum_assoc o.atom.position (multiple (pos c.n) o.cells) (multiple (pos c.n) d)
+      ∙ ap (sum_of o.atom.position) (sym (multiple-sum_of (pos c.n) o.cells d));
 }
 
 -- a translation moves positions

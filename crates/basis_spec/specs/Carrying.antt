@@ -1,5 +1,5 @@
 -- Operations carried to another basis, and maps with fractions.
---   IsCarried n r os o              the list os has o in the basis to which R takes coordinates
+--   IsCarried n q os o              the list os has o in the basis to which Q takes coordinates
 --   KeepsAny c b t d sign           the map ((B, t) / d, sign) is an isometry that carries the crystal onto itself
 --   IsListed n os b t d sign        the map is one of integers, and the list os has it
 use Rattle.std.specs.Prelude.{◌≡◌, ℕ, ℤ, pos, List}
@@ -12,12 +12,12 @@ use Rattle.positions.specs.Positions.{modulo}
 use Rattle.basis_spec.specs.Metrics.{matrix_multiple}
 use Rattle.basis_spec.specs.Maps.{TakesAny}
 
--- (W, w, sign) of which an integer V with V R = R W makes (V, R w modulo n, sign) a member of the list
-pub record IsCarried (n : ℕ) (r : Matrix) (os : List Operation) (o : Operation) : Type 0 where
+-- (W, w, sign) of which an integer V with V Q = Q W makes (V, Q w modulo n, sign) a member of the list
+pub record IsCarried (n : ℕ) (q : Matrix) (os : List Operation) (o : Operation) : Type 0 where
   pub translation : IsWithinCell n o.translation
   pub matrix : Matrix
-  pub turned : product matrix r ≡ product r o.matrix
-  pub of_list : IsMember (record { matrix = matrix; translation = modulo n (image r o.translation); sign = o.sign }) os
+  pub turned : product matrix q ≡ product q o.matrix
+  pub of_list : IsMember (record { matrix = matrix; translation = modulo n (image q o.translation); sign = o.sign }) os
 
 -- an affine isometry with fractions that carries the crystal onto itself: a map onto itself
 abbrev pub KeepsAny : Structure → Matrix → Triple → ℕ → ℤ → Type 0

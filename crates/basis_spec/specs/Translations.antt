@@ -5,13 +5,11 @@
 --   IsPrimitive c                 the cell of c is primitive: no pure translation but (0, 0, 0)
 --   pure_translation t            the operation (I, t, +1)
 --   ListsPureTranslations c os    os is the strictly increasing list of exactly the pure translations of c
---   of_species s sites            the atoms of a species
---   IsRarest c count              count is the least number of atoms of c that share a species
 use Rattle.std.specs.Prelude.{◌≡◌, ◌↔◌, ℕ, pos, eqb, true, false, ◌≤◌, List, [], ◌∷◌, length}
 use Rattle.lists.specs.Increasing.{IsIncreasing, IsMember}
 use Rattle.crystal_spec.specs.declared.Sign.TheVariants.{Same}
 use Rattle.crystal_spec.specs.Matrices.{Triple, identity}
-use Rattle.crystal_spec.specs.Crystals.{Site, Structure, Keeps}
+use Rattle.crystal_spec.specs.Crystals.{Atom, Structure, Keeps}
 use Rattle.crystal_spec.specs.Operations.{Operation, compare_of, IsWithinCell, IsSymmetryOperation}
 use Rattle.positions.specs.Positions.{origin, IsWholeCells}
 
@@ -40,15 +38,3 @@ pure_translation t = record { matrix = identity; translation = t; sign = Same }
 pub record ListsPureTranslations (c : Structure) (os : List Operation) : Type 0 where
   pub increasing : IsIncreasing compare_of os
   pub exact : (o : Operation) → IsMember o os ↔ ((o ≡ pure_translation o.translation) × IsSymmetryOperation c o)
-
--- the atoms of a species, in order
-abbrev pub of_species : ℕ → List Site → List Site
-of_species s [] = []
-of_species s (a ∷ sites) = elim (eqb a.species s) [ true ↦ a ∷ of_species s sites | false ↦ of_species s sites ]
-
--- the least number of atoms that share a species: no species of an atom has fewer, and one has as many
-pub record IsRarest (c : Structure) (count : ℕ) : Type 0 where
-  pub least : (a : Site) → IsMember a c.sites → count ≤ length (of_species a.species c.sites)
-  pub atom : Site
-  pub of_cell : IsMember atom c.sites
-  pub is : count ≡ length (of_species atom.species c.sites)

@@ -2,7 +2,7 @@
 //! another, and operations carried to another basis.
 //!
 //! Positions and translations are integers in units of 1/n along the axes, of any size here. A change of basis P has the
-//! new basis vectors as columns; R is Q = P⁻¹, which takes coordinates to those in the new basis. It is of integers, since
+//! new basis vectors as columns; Q is P⁻¹, which takes coordinates to those in the new basis. It is of integers, since
 //! the new vectors are a basis of the translations and the old axes are among these. The definitions stand in `specs/` and
 //! the lemmas in `proofs/`; the crate has no function.
 #![tactic(auto)]

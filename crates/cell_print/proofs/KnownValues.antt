@@ -24,7 +24,7 @@ oblique = record {
   n = 2;
   k = 2;
   kind = axial_vectors;
-  sites =
+  atoms =
       record { species = 0; position = record { x = pos 0; y = pos 0; z = pos 0 }; moment = record { x = pos 0; y = pos 0; z = pos 1 } }
       ∷ record { species = 1; position = record { x = pos 1; y = pos 0; z = pos 0 }; moment = record { x = pos 0; y = pos 0; z = pos 0 } }
       ∷ [];
@@ -57,7 +57,7 @@ one_atom kind m = record {
   n = 1;
   k = 2;
   kind = kind;
-  sites = record { species = 0; position = triple (pos 0) (pos 0) (pos 0); moment = m } ∷ [];
+  atoms = record { species = 0; position = triple (pos 0) (pos 0) (pos 0); moment = m } ∷ [];
 }
 
 an_axial_vector : cell_file_text (one_atom (kind_as true true) (triple (negsuc 0) (pos 0) (pos 4))) ≡ codes "magcell 1\nmetric 1 2 3 0 0 0\natom A 0 0 0 -1/2 0 2\nend\n"

@@ -6,7 +6,7 @@ use Rattle.std.proofs.lemmas.Bool.{eq-eqb, or_left, or_right, or_from, false_fro
 use Rattle.std.proofs.Math.Seq.{take-suc, take-length}
 use Rattle.lists.specs.Increasing.{IsMember, IsDistinct}
 use Rattle.lists.proofs.Members.{member_index}
-use Rattle.crystal_spec.specs.Crystals.{Site}
+use Rattle.crystal_spec.specs.Crystals.{Atom}
 use Rattle.crystal.specs.Numbering.{AreByFirstUse}
 use Rattle.cell_text.specs.Lines.{same_word}
 use Rattle.cell_text.specs.CellFile.{with_name, number_of}
@@ -42,25 +42,25 @@ number-of_name (x ∷ xs) (suc i) d h =
     let deeper = number-of_name xs i d.1 (omega arith) in
     rw (not_first x xs i d.0 (omega arith)) (omega (arith, deeper))
 
--- the names of so many sites, behind these
-abbrev pub names_behind : List (List ℕ) → List (List ℕ) → List Site → List (List ℕ)
+-- the names of so many atoms, behind these
+abbrev pub names_behind : List (List ℕ) → List (List ℕ) → List Atom → List (List ℕ)
 names_behind names so_far [] = so_far
-names_behind names so_far (s ∷ sites) = names_behind names (with_name so_far (get_or names s.species [])) sites
+names_behind names so_far (s ∷ atoms) = names_behind names (with_name so_far (get_or names s.species [])) atoms
 
 -- the species have numbers below the total
-abbrev pub AreBelow : ℕ → List Site → Type 0
+abbrev pub AreBelow : ℕ → List Atom → Type 0
 AreBelow total [] = Unit {0}
-AreBelow total (s ∷ sites) = (s.species < total) × AreBelow total sites
+AreBelow total (s ∷ atoms) = (s.species < total) × AreBelow total atoms
 
 -- The names in the order of their first use are the names.
-pub names-by_first_use : (names : List (List ℕ)) (used : ℕ) (sites : List Site) → IsDistinct names → AreBelow (length names) sites → AreByFirstUse used (length names) sites → names_behind names (take used names) sites ≡ names
+pub names-by_first_use : (names : List (List ℕ)) (used : ℕ) (atoms : List Atom) → IsDistinct names → AreBelow (length names) atoms → AreByFirstUse used (length names) atoms → names_behind names (take used names) atoms ≡ names
 names-by_first_use names used [] d below h = ap (λ (n : ℕ). take n names) h ∙ take-length names
-names-by_first_use names used (s ∷ sites) d below (inl h) =
+names-by_first_use names used (s ∷ atoms) d below (inl h) =
     let same : with_name (take used names) (get_or names s.species []) ≡ take used names = with-old (take used names) (get_or names s.species []) (used_before names used s.species h.0 below.0) in
-    ap (λ (so_far : List (List ℕ)). names_behind names so_far sites) same ∙ names-by_first_use names used sites d below.1 h.1
-names-by_first_use names used (s ∷ sites) d below (inr h) =
+    ap (λ (so_far : List (List ℕ)). names_behind names so_far atoms) same ∙ names-by_first_use names used atoms d below.1 h.1
+names-by_first_use names used (s ∷ atoms) d below (inr h) =
     let next : with_name (take used names) (get_or names s.species []) ≡ take (suc used) names =
     with-new (take used names) (get_or names s.species []) (not_before names used s.species d (omega (arith, h.0)) below.0)
     ∙ ap (λ (i : ℕ). take used names ++ get_or names i [] ∷ []) h.0
     ∙ sym (take-suc names used [] (omega (arith, h.0, below.0))) in
-    ap (λ (so_far : List (List ℕ)). names_behind names so_far sites) next ∙ names-by_first_use names (suc used) sites d below.1 h.1
+    ap (λ (so_far : List (List ℕ)). names_behind names so_far atoms) next ∙ names-by_first_use names (suc used) atoms d below.1 h.1

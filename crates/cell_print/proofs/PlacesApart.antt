@@ -11,7 +11,7 @@ use Rattle.std.proofs.Math.Nat.{div-mul_cancel, mul-div_cancel_left}
 use Rattle.ring.specs.Ring.{int_ops, var, opposite, ◌:+◌, ◌:*◌}
 use Rattle.ring.proofs.Solving.{by_ring}
 use Rattle.ring.proofs.IntRing.{int_laws}
-use Rattle.crystal_spec.specs.Crystals.{Site, Structure}
+use Rattle.crystal_spec.specs.Crystals.{Atom, Structure}
 use Rattle.crystal_spec.specs.Operations.{IsWithinCell}
 use Rattle.plain_text.specs.NumberWords.{denominator_of, is_same_modulo_1}
 use Rattle.cell_text.specs.Entries.{is_same_place}
@@ -70,7 +70,7 @@ same_coordinate n (negsuc x) y some hx hy e = absurd (omega (arith, ints, hx.0))
 same_coordinate n (pos x) (negsuc y) some hx hy e = absurd (omega (arith, ints, hy.0))
 
 -- Atoms at different positions are apart.
-pub entries-apart : (c : Structure) (a b : Site) → 0 < c.n → IsWithinCell c.n a.position → IsWithinCell c.n b.position → (a.position ≡ b.position → ⊥) → is_same_place (entry c a) (entry c b) ≡ false
+pub entries-apart : (c : Structure) (a b : Atom) → 0 < c.n → IsWithinCell c.n a.position → IsWithinCell c.n b.position → (a.position ≡ b.position → ⊥) → is_same_place (entry c a) (entry c b) ≡ false
 entries-apart c a b some ha hb other =
     false_from_ne_true (is_same_place (entry c a) (entry c b)) (λ e.
     let p = and_parts (is_same_modulo_1 (reduced c.n a.position.x) (reduced c.n b.position.x) && is_same_modulo_1 (reduced c.n a.position.y) (reduced c.n b.position.y)) (is_same_modulo_1 (reduced c.n a.position.z) (reduced c.n b.position.z)) e in

@@ -9,7 +9,7 @@ use Rattle.std.proofs.lemmas.List.Folds.{list_all-append}
 use Rattle.crystal_spec.specs.declared.MomentKind.{MomentKind}
 use Rattle.crystal_spec.specs.Matrices.{Triple}
 use Rattle.crystal_spec.specs.Moments.{IsOfKind}
-use Rattle.crystal_spec.specs.Crystals.{Site, Structure}
+use Rattle.crystal_spec.specs.Crystals.{Atom, Structure}
 use Rattle.crystal.specs.Names.{is_name, is_name_byte, are_name_bytes}
 use Rattle.plain_text.specs.Text.{lines, words}
 use Rattle.cell_text.specs.Lines.{metric_word, atom_word, end_word}
@@ -66,24 +66,24 @@ abbrev pub metric_line : Structure → List ℕ
 metric_line c = metric_word ++ numbers_text (unsigned_abs c.scale) (scalar_products c.metric)
 
 -- the name of an atom
-abbrev pub name_of : Structure → Site → List ℕ
+abbrev pub name_of : Structure → Atom → List ℕ
 name_of c s = get_or c.names s.species []
 
 -- the line of an atom, without its LF
-abbrev pub atom_line : Structure → Site → List ℕ
+abbrev pub atom_line : Structure → Atom → List ℕ
 atom_line c s = atom_word ++ 32 ∷ (name_of c s ++ (position_text c.n s.position ++ moment_text c.kind c.k s.moment))
 
 -- What is known of an atom: its name, the sizes of its numbers, and that its moment is of the kind of the cell.
-pub record IsPlain (c : Structure) (s : Site) : Type 0 where
+pub record IsPlain (c : Structure) (s : Atom) : Type 0 where
   pub name : is_name (name_of c s) ≡ true
   pub position : AreSmall (coordinates s.position)
   pub moment : AreSmall (coordinates s.moment)
   pub of_kind : IsOfKind c.kind s.moment
 
 -- this is known of each atom
-abbrev pub ArePlain : Structure → List Site → Type 0
+abbrev pub ArePlain : Structure → List Atom → Type 0
 ArePlain c [] = Unit {0}
-ArePlain c (s ∷ sites) = IsPlain c s × ArePlain c sites
+ArePlain c (s ∷ atoms) = IsPlain c s × ArePlain c atoms
 
 -- the words of a moment
 abbrev pub moment_words : MomentKind → ℕ → Triple → List (List ℕ)
@@ -110,7 +110,7 @@ follows_moment kind k m h small = by (is_nothing m)
     by false = follows_last k (moment_numbers kind m) h (moment_numbers-small kind m small)
 
 -- The words of an atom line.
-pub atom_line-words : (c : Structure) (s : Site) → c.n < 10 ^ 18 → c.k < 10 ^ 18 → IsPlain c s → words (atom_line c s) ≡ atom_word ∷ name_of c s ∷ (number_texts c.n (coordinates s.position) ++ moment_words c.kind c.k s.moment)
+pub atom_line-words : (c : Structure) (s : Atom) → c.n < 10 ^ 18 → c.k < 10 ^ 18 → IsPlain c s → words (atom_line c s) ≡ atom_word ∷ name_of c s ∷ (number_texts c.n (coordinates s.position) ++ moment_words c.kind c.k s.moment)
 atom_line-words c s hn hk plain =
     words_cut atom_word (name_of c s ++ (position_text c.n s.position ++ moment_text c.kind c.k s.moment)) (omega arith) refl
     ∙ ap (λ (ws : List (List ℕ)). atom_word ∷ ws) (follows_numbers c.n (coordinates s.position) (moment_text c.kind c.k s.moment) (moment_words c.kind c.k s.moment) hn plain.position (follows_moment c.kind c.k s.moment hk plain.moment) (name_of c s) (name-is_word (name_of c s) plain.name))
@@ -129,7 +129,7 @@ moment-bytes kind k m h small = by (is_nothing m)
     by false = numbers-line_bytes k (moment_numbers kind m) h (moment_numbers-small kind m small)
 
 -- The bytes of an atom line can stand in a line.
-pub atom_line-bytes : (c : Structure) (s : Site) → c.n < 10 ^ 18 → c.k < 10 ^ 18 → IsPlain c s → list_all is_line_byte (atom_line c s) ≡ true
+pub atom_line-bytes : (c : Structure) (s : Atom) → c.n < 10 ^ 18 → c.k < 10 ^ 18 → IsPlain c s → list_all is_line_byte (atom_line c s) ≡ true
 atom_line-bytes c s hn hk plain =
     list_all-append is_line_byte (name_of c s) (position_text c.n s.position ++ moment_text c.kind c.k s.moment)
     ∙ and_from _ _ (word-line_bytes (name_of c s) (name-is_word (name_of c s) plain.name).bytes)
@@ -141,7 +141,7 @@ metric_line-bytes c h small = numbers-line_bytes (unsigned_abs c.scale) (scalar_
 
 -- ---- the text in lines
 
-atom_text-line : (c : Structure) (s : Site) (rest : List ℕ) → atom_text c s ++ rest ≡ atom_line c s ++ 10 ∷ rest
+atom_text-line : (c : Structure) (s : Atom) (rest : List ℕ) → atom_text c s ++ rest ≡ atom_line c s ++ 10 ∷ rest
 unfolding atom_text
 atom_text-line c s rest = ap (λ (text : List ℕ). 97 ∷ 116 ∷ 111 ∷ 109 ∷ 32 ∷ text) (pieces (name_of c s) (position_text c.n s.position) (moment_text c.kind c.k s.moment) rest)
   where
@@ -149,25 +149,25 @@ atom_text-line c s rest = ap (λ (text : List ℕ). 97 ∷ 116 ∷ 111 ∷ 109 �
     pieces a b d e = simp append_assoc
 
 -- the lines of these atoms
-abbrev pub atom_lines : Structure → List Site → List (List ℕ)
+abbrev pub atom_lines : Structure → List Atom → List (List ℕ)
 atom_lines c [] = []
-atom_lines c (s ∷ sites) = atom_line c s ∷ atom_lines c sites
+atom_lines c (s ∷ atoms) = atom_line c s ∷ atom_lines c atoms
 
-atoms_text-lines : (c : Structure) (sites : List Site) (rest : List ℕ) → c.n < 10 ^ 18 → c.k < 10 ^ 18 → ArePlain c sites → lines (atoms_text c sites ++ rest) ≡ atom_lines c sites ++ lines rest
+atoms_text-lines : (c : Structure) (atoms : List Atom) (rest : List ℕ) → c.n < 10 ^ 18 → c.k < 10 ^ 18 → ArePlain c atoms → lines (atoms_text c atoms ++ rest) ≡ atom_lines c atoms ++ lines rest
 atoms_text-lines c [] rest hn hk plain = refl
-atoms_text-lines c (s ∷ sites) rest hn hk plain =
-    ap lines (append_assoc (atom_text c s) (atoms_text c sites) rest ∙ atom_text-line c s (atoms_text c sites ++ rest))
-    ∙ lines_line (atom_line c s) (atoms_text c sites ++ rest) (atom_line-bytes c s hn hk plain.0)
-    ∙ ap (λ (ls : List (List ℕ)). atom_line c s ∷ ls) (atoms_text-lines c sites rest hn hk plain.1)
+atoms_text-lines c (s ∷ atoms) rest hn hk plain =
+    ap lines (append_assoc (atom_text c s) (atoms_text c atoms) rest ∙ atom_text-line c s (atoms_text c atoms ++ rest))
+    ∙ lines_line (atom_line c s) (atoms_text c atoms ++ rest) (atom_line-bytes c s hn hk plain.0)
+    ∙ ap (λ (ls : List (List ℕ)). atom_line c s ∷ ls) (atoms_text-lines c atoms rest hn hk plain.1)
 
 -- The lines of the printed text.
-pub cell_file_text-lines : (c : Structure) → unsigned_abs c.scale < 10 ^ 18 → c.n < 10 ^ 18 → c.k < 10 ^ 18 → AreSmall (scalar_products c.metric) → ArePlain c c.sites → lines (cell_file_text c) ≡ heading_line c.kind ∷ (kind_lines c.kind ++ metric_line c ∷ (atom_lines c c.sites ++ end_word ∷ []))
+pub cell_file_text-lines : (c : Structure) → unsigned_abs c.scale < 10 ^ 18 → c.n < 10 ^ 18 → c.k < 10 ^ 18 → AreSmall (scalar_products c.metric) → ArePlain c c.atoms → lines (cell_file_text c) ≡ heading_line c.kind ∷ (kind_lines c.kind ++ metric_line c ∷ (atom_lines c c.atoms ++ end_word ∷ []))
 cell_file_text-lines c hd hn hk small plain =
     first_lines-cut c.kind (metric_and_atoms_text c)
     ∙ ap (λ (ls : List (List ℕ)). heading_line c.kind ∷ (kind_lines c.kind ++ ls))
-    (ap lines (pieces (metric_line c) (atoms_text c c.sites))
-    ∙ lines_line (metric_line c) (atoms_text c c.sites ++ (end_word ++ 10 ∷ [])) (metric_line-bytes c hd small)
-    ∙ ap (λ (ls : List (List ℕ)). metric_line c ∷ ls) (atoms_text-lines c c.sites (end_word ++ 10 ∷ []) hn hk plain))
+    (ap lines (pieces (metric_line c) (atoms_text c c.atoms))
+    ∙ lines_line (metric_line c) (atoms_text c c.atoms ++ (end_word ++ 10 ∷ [])) (metric_line-bytes c hd small)
+    ∙ ap (λ (ls : List (List ℕ)). metric_line c ∷ ls) (atoms_text-lines c c.atoms (end_word ++ 10 ∷ []) hn hk plain))
   where
     pieces : (b d : List ℕ) → ((b ++ 10 ∷ []) ++ d) ++ (end_word ++ 10 ∷ []) ≡ b ++ 10 ∷ (d ++ (end_word ++ 10 ∷ []))
     pieces b d = simp append_assoc

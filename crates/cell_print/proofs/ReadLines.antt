@@ -7,7 +7,7 @@ use Rattle.std.proofs.lemmas.Int.{ints}
 use Rattle.crystal_spec.specs.declared.MomentKind.{MomentKind}
 use Rattle.crystal_spec.specs.Matrices.{Triple, Matrix}
 use Rattle.crystal_spec.specs.Moments.{IsOfKind}
-use Rattle.crystal_spec.specs.Crystals.{Site, Structure, IsPositive}
+use Rattle.crystal_spec.specs.Crystals.{Atom, Structure, IsPositive}
 use Rattle.crystal.specs.Cells.{IsSymmetric}
 use Rattle.crystal.specs.Names.{is_name}
 use Rattle.numbers.specs.Fraction.{Fraction}
@@ -15,7 +15,7 @@ use Rattle.plain_text.specs.NumberWords.{scaled, common_denominator, number_valu
 use Rattle.plain_text.specs.FirstFaults.{first_of}
 use Rattle.cell_text.specs.declared.version.Version.{Version}
 use Rattle.cell_text.specs.Lines.{number_form, word_fault, metric_entry, atom_entry, behind_atom, entry_of_words, entry_of}
-use Rattle.cell_text.specs.Entries.{AtomLine, ScaledMetric, values, nothing, number_at, atom_of, scaled_tensor, metric_of, symmetric, is_billion, is_metric_in_range, is_positive}
+use Rattle.cell_text.specs.Entries.{AtomLine, ScaledMetric, values, nothing, number_at, atom_line_of, scaled_tensor, metric_of, symmetric, is_billion, is_metric_in_range, is_positive}
 use Rattle.cell_text.specs.Rules.{are_numbers_of}
 use Rattle.cell_print.specs.CellFileText.{scalar_products, coordinates, is_zero, is_nothing, moment_numbers}
 use Rattle.cell_print.specs.Printable.{divisor_with, AreAtMost}
@@ -124,7 +124,7 @@ metric_line-no_fault version c h = number_texts-no_fault version (unsigned_abs c
 -- ---- atom lines
 
 -- the atom as a line of the cell file says it
-abbrev pub entry : Structure → Site → AtomLine
+abbrev pub entry : Structure → Atom → AtomLine
 entry c s = record {
   name = name_of c s;
   x = reduced c.n s.position.x;
@@ -179,7 +179,7 @@ moment_words-values kind k m some h small of_kind = by (is_nothing m) refl
     by false e = numbers-values kind k m some h small of_kind
 
 -- the number words of an atom line
-abbrev pub atom_words : Structure → Site → List (List ℕ)
+abbrev pub atom_words : Structure → Atom → List (List ℕ)
 atom_words c s = number_texts c.n (coordinates s.position) ++ moment_words c.kind c.k s.moment
 
 -- the atom of these values
@@ -187,7 +187,7 @@ abbrev of_values : List ℕ → List Fraction → List Fraction → AtomLine
 of_values name ps ms = record { name = name; x = number_at ps 0; y = number_at ps 1; z = number_at ps 2; ma = number_at ms 0; mb = number_at ms 1; mc = number_at ms 2 }
 
 -- An atom line says the atom.
-pub atom_line-read : (c : Structure) (s : Site) → HasUnits c → IsPlain c s → atom_of (name_of c s) (values (atom_words c s)) ≡ entry c s
+pub atom_line-read : (c : Structure) (s : Atom) → HasUnits c → IsPlain c s → atom_line_of (name_of c s) (values (atom_words c s)) ≡ entry c s
 atom_line-read c s units plain =
     ap (λ (ps : List Fraction). of_values (name_of c s) ps (moment_values (values (moment_words c.kind c.k s.moment)))) (number_texts-values c.n (coordinates s.position) units.some_n (omega (arith, units.small_n)) plain.position)
     ∙ ap (λ (ms : List Fraction). of_values (name_of c s) (map (reduced c.n) (coordinates s.position)) ms) (moment_words-values c.kind c.k s.moment units.some_k (omega (arith, units.small_k)) plain.moment plain.of_kind)
@@ -200,7 +200,7 @@ numbers-no_fault version kind k m some h small = by kind.vector
     by false = number_texts-no_fault version k (m.x ∷ []) [] some h (small.0, tt) refl
 
 -- Its words behind the name are numbers.
-pub atom_line-no_fault : (version : Version) (c : Structure) (s : Site) → HasUnits c → IsPlain c s → first_of (map (word_fault version) (atom_words c s)) ≡ None
+pub atom_line-no_fault : (version : Version) (c : Structure) (s : Atom) → HasUnits c → IsPlain c s → first_of (map (word_fault version) (atom_words c s)) ≡ None
 atom_line-no_fault version c s units plain =
     number_texts-no_fault version c.n (coordinates s.position) (moment_words c.kind c.k s.moment) units.some_n (omega (arith, units.small_n)) plain.position (by (is_nothing s.moment))
   where
@@ -214,26 +214,26 @@ record HasCount (kind : MomentKind) (ws : List (List ℕ)) : Type 0 where
   pub of_kind : are_numbers_of kind (length ws) ≡ true
 
 -- the words behind the name, where the moment is 0 or not and a vector or not
-abbrev words_by : Structure → Site → Bool → Bool → List (List ℕ)
+abbrev words_by : Structure → Atom → Bool → Bool → List (List ℕ)
 words_by c s none vector = number_texts c.n (coordinates s.position) ++ (if none then [] else number_texts c.k (if vector then coordinates s.moment else s.moment.x ∷ []))
 
-count_by : (c : Structure) (s : Site) (none vector axial : Bool) → HasCount (kind_as vector axial) (words_by c s none vector)
+count_by : (c : Structure) (s : Atom) (none vector axial : Bool) → HasCount (kind_as vector axial) (words_by c s none vector)
 count_by c s true vector axial = record { of_any = refl; of_kind = refl }
 count_by c s false true axial = record { of_any = refl; of_kind = refl }
 count_by c s false false axial = record { of_any = refl; of_kind = refl }
 
-count_is : (c : Structure) (s : Site) → HasCount c.kind (atom_words c s)
+count_is : (c : Structure) (s : Atom) → HasCount c.kind (atom_words c s)
 count_is c s = count_by c s (is_nothing s.moment) c.kind.vector c.kind.axial
 
 -- They are as many as the kind asks.
-pub atom_line-count : (c : Structure) (s : Site) → are_numbers_of c.kind (length (atom_words c s)) ≡ true
+pub atom_line-count : (c : Structure) (s : Atom) → are_numbers_of c.kind (length (atom_words c s)) ≡ true
 atom_line-count c s = (count_is c s).of_kind
 
 named : (name : List ℕ) (ws : List (List ℕ)) → is_name name ≡ true → (length ws == 3 || length ws == 4 || length ws == 6) ≡ true → behind_atom (name ∷ ws) ≡ atom_entry name ws
 named name ws e f = rw (e, f) refl
 
 -- It is an atom line, in each version.
-pub atom_line-is : (version : Version) (c : Structure) (s : Site) → HasUnits c → IsPlain c s → entry_of version (atom_line c s) ≡ atom_entry (name_of c s) (atom_words c s)
+pub atom_line-is : (version : Version) (c : Structure) (s : Atom) → HasUnits c → IsPlain c s → entry_of version (atom_line c s) ≡ atom_entry (name_of c s) (atom_words c s)
 unfolding entry_of
 atom_line-is version c s units plain =
     ap (entry_of_words version) (atom_line-words c s (omega (arith, units.small_n)) (omega (arith, units.small_k)) plain)

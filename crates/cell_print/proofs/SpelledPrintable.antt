@@ -3,7 +3,7 @@
 -- No line breaks a rule. So each number is in lowest terms, and scale, n and k, which are the least common denominators, are
 -- the least units; sizes are within the limits of the cell file, and names have the form of names.
 use Rattle.std.proofs.Common.{◌≡◌, ℕ, zero, suc, ◌^◌, ◌<◌, ◌≤◌, Bool, true, false, List, [], ◌∷◌, ◌++◌, length, map, get_or, Option, Some, None, refl, sym, ap, subst, ◌∙◌, arith, length-append}
-use Rattle.std.specs.Prelude.{ℤ, pos, ◌≤ℤ◌, ◌&&◌, ◌||◌, not, ◌==◌, nat_le, nat_lt, unsigned_abs}
+use Rattle.std.specs.Prelude.{ℤ, pos, ◌≤ℤ◌, nat_le, unsigned_abs}
 use Rattle.std.specs.Int.{◌∣◌}
 use Rattle.std.specs.List.{fold, list_all, list_any}
 use Rattle.std.proofs.lemmas.Bool.{leb-true, and_parts}
@@ -21,9 +21,9 @@ use Rattle.plain_text.specs.NumberWords.{common_denominator, scaled, number_valu
 use Rattle.plain_text.specs.FirstFaults.{or_else, first_of}
 use Rattle.plain_text.proofs.Decimals.{number_positive}
 use Rattle.cell_text.specs.Lines.{number_form, word_fault, same_word, Entry, skipped, metric_entry, atom_entry, end_entry, kind_entry, other_entry}
-use Rattle.cell_text.specs.Entries.{AtomLine, ScaledMetric, Contents, values, nothing, number_at, atom_of, metric_of, with_entry, state_after, contents, positions, moments, is_billion, is_metric_in_range, are_moments_in_range}
+use Rattle.cell_text.specs.Entries.{AtomLine, ScaledMetric, Contents, values, nothing, number_at, atom_line_of, metric_of, with_entry, state_after, contents, positions, moments, is_billion, is_metric_in_range, are_moments_in_range}
 use Rattle.cell_text.specs.Rules.{metric_fault, atom_fault, entry_fault}
-use Rattle.cell_text.specs.CellFile.{Spells, cell_with, with_name, names_of, site_of, no_metric}
+use Rattle.cell_text.specs.CellFile.{Spells, cell_with, with_name, names_of, atom_of, no_metric}
 use Rattle.cell_text.proofs.Judging.{IsEntry}
 use Rattle.cell_text.proofs.MetricLines.{number_billion}
 use Rattle.cell_text.proofs.NameLemmas.{with-old, with-new, spelled_numbered}
@@ -108,7 +108,7 @@ metric_printable fs n e l =
 metric_here : (version : Version) (held : Contents) (ws : List (List ℕ)) → length ws ≡ 6 → metric_fault version held ws ≡ None → IsPrintableMetric (metric_of (values ws))
 metric_here version held ws n e = metric_printable (values ws) (length-map ws number_value ∙ n) (metric_fits version held ws e) (values_lowest version ws (metric_numbers version held ws e))
 
-atom_here : (version : Version) (held : Contents) (name : List ℕ) (ws : List (List ℕ)) → is_name name ≡ true → atom_fault version held name ws ≡ None → IsPrintableAtom (atom_of name (values ws))
+atom_here : (version : Version) (held : Contents) (name : List ℕ) (ws : List (List ℕ)) → is_name name ≡ true → atom_fault version held name ws ≡ None → IsPrintableAtom (atom_line_of name (values ws))
 atom_here version held name ws n e =
     let l = values_lowest version ws (atom_numbers version held name ws e) in
     let at : (i : ℕ) → IsLowest (number_at (values ws) i) = λ i. number_lowest (values ws) i l in
@@ -133,7 +133,7 @@ later_printable version held (metric_entry ws) n e h = record {
 later_printable version held (atom_entry name ws) n e h = record {
   metrics = h.metrics;
   some = h.some;
-  atoms = atoms-append held.atoms (atom_of name (values ws)) h.atoms (atom_here version held name ws n e);
+  atoms = atoms-append held.atoms (atom_line_of name (values ws)) h.atoms (atom_here version held name ws n e);
   moments = moments_fit version held name ws e;
 }
 later_printable version held end_entry n e h = record { metrics = h.metrics; some = λ ended. end_behind_metric held e; atoms = h.atoms; moments = h.moments }
@@ -179,7 +179,7 @@ moments_lowest (a ∷ held) all = let p = all.0.moment in (p.0, (p.1.0, (p.1.1.0
 
 module _ (names : List (List ℕ)) (n k : ℕ) where
   -- what divides n and all coordinates modulo n divides all coordinates
-  positions_divided : (g : ℕ) (held : List AtomLine) → g ∣ n → AllDivisible g (all_positions (map (site_of names n k) held)) → Each (λ f. g ∣ unsigned_abs (scaled n f)) (positions held)
+  positions_divided : (g : ℕ) (held : List AtomLine) → g ∣ n → AllDivisible g (all_positions (map (atom_of names n k) held)) → Each (λ f. g ∣ unsigned_abs (scaled n f)) (positions held)
   unfolding positions
   positions_divided g [] h all = tt
   positions_divided g (a ∷ held) h all = (
@@ -187,13 +187,13 @@ module _ (names : List (List ℕ)) (n k : ℕ) where
     (residue_divisor n g (scaled n a.y) h all.1.0, (residue_divisor n g (scaled n a.z) h all.1.1.0, positions_divided g held h all.1.1.1)),
   )
 
-  moments_divided : (g : ℕ) (held : List AtomLine) → AllDivisible g (all_moments (map (site_of names n k) held)) → Each (λ f. g ∣ unsigned_abs (scaled k f)) (moments held)
+  moments_divided : (g : ℕ) (held : List AtomLine) → AllDivisible g (all_moments (map (atom_of names n k) held)) → Each (λ f. g ∣ unsigned_abs (scaled k f)) (moments held)
   unfolding moments
   moments_divided g [] all = tt
   moments_divided g (a ∷ held) all = (all.0, (all.1.0, (all.1.1.0, moments_divided g held all.1.1.1)))
 
   -- moments are within their limit
-  moments_at_most : (held : List AtomLine) → list_all (λ (m : Fraction). is_billion (scaled k m)) (moments held) ≡ true → AreAtMost (10 ^ 9) (all_moments (map (site_of names n k) held))
+  moments_at_most : (held : List AtomLine) → list_all (λ (m : Fraction). is_billion (scaled k m)) (moments held) ≡ true → AreAtMost (10 ^ 9) (all_moments (map (atom_of names n k) held))
   unfolding moments
   moments_at_most [] e = tt
   moments_at_most (a ∷ held) e =
@@ -210,15 +210,15 @@ in_range held e = (and_parts (nat_le (common_denominator (moments held)) 1000000
 scale_fits : (scale : ℕ) → scale ≤ 10 ^ 9 → pos scale ≤ℤ pos (10 ^ 9)
 scale_fits scale h = omega (arith, ints, h)
 
-contents_printable : (held : Contents) → HoldsPrintable held → 0 < length held.metrics → AreByFirstUse 0 (length (cell_with held).names) (cell_with held).sites → IsPrintable (cell_with held)
+contents_printable : (held : Contents) → HoldsPrintable held → 0 < length held.metrics → AreByFirstUse 0 (length (cell_with held).names) (cell_with held).atoms → IsPrintable (cell_with held)
 unfolding cell_with names_of
 contents_printable held h some numbered =
     let m = first_printable held.metrics some h.metrics in
     let names = names_of held.atoms in
     let n = common_denominator (positions held.atoms) in
     let k = common_denominator (moments held.atoms) in
-    let ps = all_positions (map (site_of names n k) held.atoms) in
-    let ms = all_moments (map (site_of names n k) held.atoms) in
+    let ps = all_positions (map (atom_of names n k) held.atoms) in
+    let ms = all_moments (map (atom_of names n k) held.atoms) in
     record {
       least_scale = m.least;
       least_n = least_unit (positions held.atoms) (positions_lowest held.atoms h.atoms) (divisor_with n ps) (divisor-start n ps) (positions_divided names n k (divisor_with n ps) held.atoms (divisor-start n ps) (divisor-each n ps));

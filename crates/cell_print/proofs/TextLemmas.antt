@@ -4,7 +4,7 @@ use Rattle.std.specs.Prelude.{slice_get}
 use Rattle.std.proofs.lemmas.Option.{get_or_from_slice_get}
 use Rattle.lists.proofs.Walks.{drop_at}
 use Rattle.crystal_spec.specs.declared.MomentKind.{MomentKind}
-use Rattle.crystal_spec.specs.Crystals.{Site, Structure}
+use Rattle.crystal_spec.specs.Crystals.{Atom, Structure}
 use Rattle.crystal_spec.specs.Matrices.{Matrix}
 use Rattle.plain_text.specs.NumberText.{numbers_text}
 use Rattle.cell_print.specs.CellFileText.{heading_text, scalar_products, metric_text, position_text, moment_text, atom_text, atoms_text, cell_lines_text, cell_file_text}
@@ -26,7 +26,7 @@ metric_from_pieces g d old n1 n2 n3 e1 e2 e3 =
     pieces old a b = simp append_assoc
 
 -- the pieces of the line of an atom
-pub atom_from_pieces : (c : Structure) (s : Site) (n k : ℕ) (kind : MomentKind) (old n1 n2 n3 n4 n5 name : List ℕ) →
+pub atom_from_pieces : (c : Structure) (s : Atom) (n k : ℕ) (kind : MomentKind) (old n1 n2 n3 n4 n5 name : List ℕ) →
     slice_get c.names s.species ≡ Some name → n ≡ c.n → k ≡ c.k → kind ≡ c.kind →
     n1 ≡ old ++ atom_start → n2 ≡ n1 ++ name → n3 ≡ n2 ++ position_text n s.position → n4 ≡ n3 ++ moment_text kind k s.moment → n5 ≡ n4 ++ 10 ∷ [] →
     n5 ≡ old ++ atom_text c s
@@ -44,11 +44,11 @@ atom_from_pieces c s n k kind old n1 n2 n3 n4 n5 name named of_n of_k of_kind e1
     pieces old a b d e = simp append_assoc
 
 -- one atom more
-pub atoms_more : (c : Structure) (s : Site) (i : ℕ) (out old pushed : List ℕ) → slice_get c.sites i ≡ Some s → out ++ atoms_text c (drop i c.sites) ≡ old → pushed ≡ out ++ atom_text c s → pushed ++ atoms_text c (drop (i + 1) c.sites) ≡ old
+pub atoms_more : (c : Structure) (s : Atom) (i : ℕ) (out old pushed : List ℕ) → slice_get c.atoms i ≡ Some s → out ++ atoms_text c (drop i c.atoms) ≡ old → pushed ≡ out ++ atom_text c s → pushed ++ atoms_text c (drop (i + 1) c.atoms) ≡ old
 atoms_more c s i out old pushed at so_far e =
-    ap (λ (z : List ℕ). z ++ atoms_text c (drop (i + 1) c.sites)) e
-    ∙ append_assoc out (atom_text c s) (atoms_text c (drop (i + 1) c.sites))
-    ∙ ap (λ (sites : List Site). out ++ atoms_text c sites) (sym (drop_at c.sites i s at))
+    ap (λ (z : List ℕ). z ++ atoms_text c (drop (i + 1) c.atoms)) e
+    ∙ append_assoc out (atom_text c s) (atoms_text c (drop (i + 1) c.atoms))
+    ∙ ap (λ (atoms : List Atom). out ++ atoms_text c atoms) (sym (drop_at c.atoms i s at))
     ∙ so_far
 
 -- the first line, and the lines of the cell behind it

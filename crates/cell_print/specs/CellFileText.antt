@@ -14,7 +14,7 @@
 use Rattle.std.specs.Prelude.{ℕ, zero, suc, ℤ, pos, negsuc, Bool, true, false, ◌&&◌, List, [], ◌∷◌, ◌++◌, codes, get_or, unsigned_abs, if◌then◌else◌}
 use Rattle.crystal_spec.specs.declared.MomentKind.{MomentKind}
 use Rattle.crystal_spec.specs.Matrices.{Triple, Matrix}
-use Rattle.crystal_spec.specs.Crystals.{Site, Structure}
+use Rattle.crystal_spec.specs.Crystals.{Atom, Structure}
 use Rattle.plain_text.specs.NumberText.{numbers_text}
 
 -- the first line: version 1 is that of axial vectors
@@ -62,17 +62,17 @@ abbrev pub moment_text : MomentKind → ℕ → Triple → List ℕ
 moment_text kind k m = if is_nothing m then [] else numbers_text k (moment_numbers kind m)
 
 -- the line of an atom: its name, its position, and its moment where it is not 0
-unfoldable pub atom_text : Structure → Site → List ℕ
+unfoldable pub atom_text : Structure → Atom → List ℕ
 atom_text c s = codes "atom " ++ (get_or c.names s.species [] ++ (position_text c.n s.position ++ (moment_text c.kind c.k s.moment ++ 10 ∷ [])))
 
 -- the lines of these atoms of the cell
-abbrev pub atoms_text : Structure → List Site → List ℕ
+abbrev pub atoms_text : Structure → List Atom → List ℕ
 atoms_text c [] = []
-atoms_text c (s ∷ sites) = atom_text c s ++ atoms_text c sites
+atoms_text c (s ∷ atoms) = atom_text c s ++ atoms_text c atoms
 
 -- the metric line, the atoms and `end`
 abbrev pub metric_and_atoms_text : Structure → List ℕ
-metric_and_atoms_text c = metric_text (unsigned_abs c.scale) c.metric ++ atoms_text c c.sites ++ codes "end\n"
+metric_and_atoms_text c = metric_text (unsigned_abs c.scale) c.metric ++ atoms_text c c.atoms ++ codes "end\n"
 
 -- the lines behind the first
 abbrev pub cell_lines_text : Structure → List ℕ

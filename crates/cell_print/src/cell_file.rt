@@ -1,7 +1,7 @@
 // The lines of a cell file.
 ghost use Rattle.std.specs.Prelude.{◌≡◌, ◌++◌, List, ℕ, IfOk, OnOk, OnErr, length, ◌<◌, ◌≤◌};
 ghost use Rattle.crystal_spec.specs.Crystals.{Structure};
-ghost use Rattle.crystal.specs.Views.{metric_of, site_of};
+ghost use Rattle.crystal.specs.Views.{metric_of, atom_of};
 ghost use Rattle.positions.specs.Positions.{triple_of};
 ghost use Rattle.cell_text.specs.CellFile.{Spells};
 ghost use Rattle.cell_print.specs.Printable.{IsPrintable};
@@ -51,12 +51,7 @@ fn push_kind(out: &mut Bytes, kind: MomentKind) -> Result<(), AllocError>
 ///
 /// Each is in lowest terms, in the order a·a, b·b, c·c, b·c, a·c, a·b. Asks that the scale is at least 1. Refuses for want of
 /// memory alone; what is added then is left open.
-pub fn push_products(
-    alloc: Global,
-    out: &mut Bytes,
-    scale: u128,
-    metric: &Metric,
-) -> Result<(), AllocError>
+pub fn push_products(out: &mut Bytes, scale: u128, metric: &Metric) -> Result<(), AllocError>
     requires { 1 ≤ scale }
     ensures { OnOk result (out.new ≡ out.old ++ numbers_text scale (scalar_products (metric_of metric.now))) }
 {
@@ -69,21 +64,16 @@ pub fn push_products(
         g.ac.get(),
         g.ab.get(),
     ];
-    push_numbers(alloc, out, &products, scale)
+    push_numbers(out, &products, scale)
 }
 
 /// Adds the metric line, of a metric tensor in units of 1/scale.
-fn push_metric(
-    alloc: Global,
-    out: &mut Bytes,
-    scale: u128,
-    metric: &Metric,
-) -> Result<(), AllocError>
+fn push_metric(out: &mut Bytes, scale: u128, metric: &Metric) -> Result<(), AllocError>
     requires { 1 ≤ scale }
     ensures { OnOk result (out.new ≡ out.old ++ metric_text scale (metric_of metric.now)) }
 {
     out.append(b"metric")?;
-    push_products(alloc, out, scale, metric)?;
+    push_products(out, scale, metric)?;
     out.push(b'\n')?;
     Ok(())
 }
@@ -100,7 +90,6 @@ pub fn push_name(out: &mut Bytes, name: &Name) -> Result<(), AllocError>
 
 /// Adds a moment in units of 1/k, where it is not 0: three numbers of a vector, one of a scalar.
 fn push_moment(
-    alloc: Global,
     out: &mut Bytes,
     kind: MomentKind,
     k: u128,
@@ -114,53 +103,53 @@ fn push_moment(
         return Ok(());
     }
     if kind.vector {
-        push_numbers(alloc, out, &[m.x.get(), m.y.get(), m.z.get()], k)
+        push_numbers(out, &[m.x.get(), m.y.get(), m.z.get()], k)
     } else {
-        push_numbers(alloc, out, &[m.x.get()], k)
+        push_numbers(out, &[m.x.get()], k)
     }
 }
 
 /// Adds a position in units of 1/n.
-fn push_position(alloc: Global, out: &mut Bytes, n: u128, place: [u32; 3]) -> Result<(), AllocError>
+fn push_position(out: &mut Bytes, n: u128, place: [u32; 3]) -> Result<(), AllocError>
     requires { 1 ≤ n }
     ensures { OnOk result (out.new ≡ out.old ++ position_text n (triple_of place)) }
 {
     let [x, y, z] = place;
-    push_numbers(alloc, out, &[x as i128, y as i128, z as i128], n)
+    push_numbers(out, &[x as i128, y as i128, z as i128], n)
 }
 
 /// Adds the line of an atom of the cell.
-fn push_atom(alloc: Global, out: &mut Bytes, cell: &Cell, atom: &Atom) -> Result<(), AllocError>
+fn push_atom(out: &mut Bytes, cell: &Cell, atom: &Atom) -> Result<(), AllocError>
     requires species { atom.now.species < length cell.now.names }
-    ensures { OnOk result (out.new ≡ out.old ++ atom_text cell.now (site_of atom.now)) }
+    ensures { OnOk result (out.new ≡ out.old ++ atom_text cell.now (atom_of atom.now)) }
 {
-    let _form = cell.count();
+    cell.invariant();
     out.append(b"atom ")?;
     push_name(out, cell.name(atom.species))?;
-    push_position(alloc, out, cell.n() as u128, atom.place)?;
-    push_moment(alloc, out, cell.kind(), cell.k() as u128, &atom.moment)?;
+    push_position(out, cell.n() as u128, atom.place)?;
+    push_moment(out, cell.kind(), cell.k() as u128, &atom.moment)?;
     out.push(b'\n')?;
     Ok(())
 }
 
 /// Adds the lines of all atoms of the cell.
-fn push_atoms(alloc: Global, out: &mut Bytes, cell: &Cell) -> Result<(), AllocError>
-    ensures { OnOk result (out.new ≡ out.old ++ atoms_text cell.now cell.now.sites) }
+fn push_atoms(out: &mut Bytes, cell: &Cell) -> Result<(), AllocError>
+    ensures { OnOk result (out.new ≡ out.old ++ atoms_text cell.now cell.now.atoms) }
 {
     for i in 0..cell.count() {
-        push_atom(alloc, out, cell, cell.atom(i))?;
+        push_atom(out, cell, cell.atom(i))?;
     }
     Ok(())
 }
 
 /// Adds the metric line, the lines of all atoms, and `end`.
-fn push_metric_and_atoms(alloc: Global, out: &mut Bytes, cell: &Cell) -> Result<(), AllocError>
+fn push_metric_and_atoms(out: &mut Bytes, cell: &Cell) -> Result<(), AllocError>
     ensures { OnOk result (out.new ≡ out.old ++ metric_and_atoms_text cell.now) }
 {
-    let _form = cell.count();
+    cell.invariant();
     let scale = cell.scale().get().unsigned_abs();
-    push_metric(alloc, out, scale, cell.metric())?;
-    push_atoms(alloc, out, cell)?;
+    push_metric(out, scale, cell.metric())?;
+    push_atoms(out, cell)?;
     out.append(b"end\n")?;
     Ok(())
 }
@@ -170,11 +159,11 @@ fn push_metric_and_atoms(alloc: Global, out: &mut Bytes, cell: &Cell) -> Result<
 /// They are the kind line, which a cell of axial vectors does not have, the metric line, one line an atom in order, and `end`.
 /// Each number is in lowest terms, and a moment of 0 is left out. Refuses for want of memory alone; what is added then is left
 /// open.
-pub fn push_cell(alloc: Global, out: &mut Bytes, cell: &Cell) -> Result<(), AllocError>
+pub fn push_cell(out: &mut Bytes, cell: &Cell) -> Result<(), AllocError>
     ensures { OnOk result (out.new ≡ out.old ++ cell_lines_text cell.now) }
 {
     push_kind(out, cell.kind())?;
-    push_metric_and_atoms(alloc, out, cell)
+    push_metric_and_atoms(out, cell)
 }
 
 /// The cell file of a cell: of version 1 where moments are axial vectors, and else of version 2.
@@ -185,10 +174,10 @@ pub fn print_cell(alloc: Global, cell: &Cell) -> Result<Bytes, AllocError>
     ensures value { IfOk result (λ text. text ≡ cell_file_text cell.now) }
     ensures spelled { IfOk result (λ text. IsPrintable cell.now → Spells text cell.now) }
 {
-    let _form = cell.count();
+    cell.invariant();
     let mut out = Bytes::new(alloc);
     push_heading(&mut out, cell.kind())?;
-    push_cell(alloc, &mut out, cell)?;
+    push_cell(&mut out, cell)?;
     Ok(out)
 }
 

@@ -29,22 +29,22 @@ const MIRROR_ACROSS_C: Rows = [[1, 0, 0], [0, 1, 0], [0, 0, -1]];
 const SHEAR: Rows = [[1, 1, 0], [0, 1, 0], [0, 0, 1]];
 
 /// An atom: its species, its position and its moment along c.
-struct Site(u16, [u32; 3], i8);
+struct Placed(u16, [u32; 3], i8);
 
 /// The parts n of the axes, and the atom beside an atom Mn with moment 1 along c at the origin.
-struct Crystal(u32, Option<Site>);
+struct Crystal(u32, Option<Placed>);
 
 const ONE: Crystal = Crystal(1, None);
 
-const CENTRED: Crystal = Crystal(2, Some(Site(0, [1, 1, 1], 1)));
+const CENTRED: Crystal = Crystal(2, Some(Placed(0, [1, 1, 1], 1)));
 
-const MIXED: Crystal = Crystal(2, Some(Site(1, [1, 1, 1], 1)));
+const MIXED: Crystal = Crystal(2, Some(Placed(1, [1, 1, 1], 1)));
 
-const OPPOSED: Crystal = Crystal(2, Some(Site(0, [0, 0, 1], -1)));
+const OPPOSED: Crystal = Crystal(2, Some(Placed(0, [0, 0, 1], -1)));
 
-const UNEQUAL: Crystal = Crystal(2, Some(Site(0, [0, 0, 1], -2)));
+const UNEQUAL: Crystal = Crystal(2, Some(Placed(0, [0, 0, 1], -2)));
 
-const OF_TWO_SPECIES: Crystal = Crystal(4, Some(Site(1, [1, 2, 3], -5)));
+const OF_TWO_SPECIES: Crystal = Crystal(4, Some(Placed(1, [1, 2, 3], -5)));
 
 /// A crystal, a map, and whether the map keeps the crystal.
 struct Map(Crystal, Rows, [u32; 3], Sign, bool);
@@ -171,10 +171,10 @@ fn one_atom(alloc: Global, n: u32) -> Option<Cell>
 }
 
 /// The atom of a row.
-fn atom_of(site: &Site) -> Atom
+fn atom_of(placed: &Placed) -> Atom
     ensures { CoordinatesAtMost (2 * 10 ^ 27) result.moment }
 {
-    let Site(species, place, moment) = site;
+    let Placed(species, place, moment) = placed;
     let place = *place;
     atom(*species, place, *moment)
 }
@@ -186,8 +186,8 @@ fn cell_of(alloc: Global, crystal: &Crystal) -> Option<Cell> {
         return None;
     }
     let mut cell = one_atom(alloc, *n)?;
-    if let Some(site) = second {
-        put(&mut cell, atom_of(site))?;
+    if let Some(placed) = second {
+        put(&mut cell, atom_of(placed))?;
     }
     Some(cell)
 }

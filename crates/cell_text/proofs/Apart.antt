@@ -24,7 +24,7 @@ use Rattle.crystal.specs.Occupants.{NoneAt}
 use Rattle.numbers.specs.Fraction.{Fraction}
 use Rattle.plain_text.specs.NumberWords.{denominator_of, scaled, is_same_modulo_1}
 use Rattle.cell_text.specs.Entries.{AtomLine, positions, is_same_place}
-use Rattle.cell_text.specs.CellFile.{site_of, position_of}
+use Rattle.cell_text.specs.CellFile.{atom_of, position_of}
 use Rattle.cell_text.specs.Views.{AreApart}
 
 -- ---- two fractions
@@ -121,14 +121,14 @@ told n a b h da db other e =
     all_three : (p q r : Bool) → p ≡ true → q ≡ true → r ≡ true → (p && q && r) ≡ true
     all_three p q r e f g = rw (e, f, g) refl
 
-none_of : (names : List (List ℕ)) (n k : ℕ) (held : List AtomLine) (b : AtomLine) → 0 < n → AllDivide n held → Divides n b → list_all (λ a. not (is_same_place a b)) held ≡ true → NoneAt (position_of n b) (map (site_of names n k) held)
+none_of : (names : List (List ℕ)) (n k : ℕ) (held : List AtomLine) (b : AtomLine) → 0 < n → AllDivide n held → Divides n b → list_all (λ a. not (is_same_place a b)) held ≡ true → NoneAt (position_of n b) (map (atom_of names n k) held)
 none_of names n k [] b h d db e = tt
 none_of names n k (a ∷ held) b h d db e =
     let p = and_parts (not (is_same_place a b)) _ e in
     (told n a b h d.0 db p.0, none_of names n k held b h d.1 db p.1)
 
 -- No atom before b stands at its position of the cell.
-pub none_before : (names : List (List ℕ)) (n k : ℕ) (held : List AtomLine) (b : AtomLine) (later : List AtomLine) → 0 < n → AllDivide n (held ++ b ∷ later) → AreApart (held ++ b ∷ later) → NoneAt (position_of n b) (map (site_of names n k) held)
+pub none_before : (names : List (List ℕ)) (n k : ℕ) (held : List AtomLine) (b : AtomLine) (later : List AtomLine) → 0 < n → AllDivide n (held ++ b ∷ later) → AreApart (held ++ b ∷ later) → NoneAt (position_of n b) (map (atom_of names n k) held)
 none_before names n k held b later h divide apart =
     let d = divide_before n held b later divide in
     none_of names n k held b h d.0 d.1 (apart_before held b later apart)

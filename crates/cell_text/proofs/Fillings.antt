@@ -7,14 +7,14 @@ use Rattle.lists.specs.Increasing.{IsMember}
 use Rattle.crystal_spec.specs.declared.MomentKind.{MomentKind}
 use Rattle.crystal_spec.specs.Moments.{axial_vectors, IsOfKind}
 use Rattle.crystal_spec.specs.Matrices.{Triple}
-use Rattle.crystal_spec.specs.Crystals.{Site, Structure}
+use Rattle.crystal_spec.specs.Crystals.{Atom, Structure}
 use Rattle.cell_text.specs.declared.atom_line.AtomLine.{AtomLine as CodeAtom}
 use Rattle.crystal.specs.declared.limits.TheConstants.{MOST_ATOMS, MOST_NAMES}
 use Rattle.crystal.specs.Occupants.{NoneAt}
 use Rattle.plain_text.specs.NumberWords.{common_denominator, scaled}
 use Rattle.cell_text.specs.Entries.{AtomLine, ScaledMetric, nothing, positions, moments}
-use Rattle.cell_text.specs.CellFile.{with_name, names_of, number_of, site_of, position_of, moment_of, cell_with}
-use Rattle.cell_text.specs.Filling.{with_site, filled, whole_of}
+use Rattle.cell_text.specs.CellFile.{with_name, names_of, number_of, atom_of, position_of, moment_of, cell_with}
+use Rattle.cell_text.specs.Filling.{with_atom, filled, whole_of}
 use Rattle.cell_text.specs.Views.{atom_view, AreApart, IsOfScalar, AreOfKind}
 use Rattle.cell_text.proofs.Apart.{AllDivide, all_divide, none_before}
 use Rattle.cell_text.proofs.NameLemmas.{old_name, new_name, new_member, number_below, with_most, names-more, number-final, names_at_most}
@@ -50,24 +50,24 @@ take_suc (y ∷ ys) zero x h e = ap (λ (z : CodeAtom). atom_view z ∷ []) e
 take_suc (y ∷ ys) (suc i) x h e = ap (λ (zs : List AtomLine). atom_view y ∷ zs) (take_suc ys i x (omega arith) e)
 
 -- one atom more: its species has the number that it has in the whole cell
-site-final : (n k : ℕ) (held : List AtomLine) (b : AtomLine) (later : List AtomLine) → site_of (names_of held) n k b ≡ site_of (names_of (held ++ b ∷ later)) n k b
-site-final n k held b later = ap (λ (i : ℕ). at i) (sym (number-final held b later))
+atom-final : (n k : ℕ) (held : List AtomLine) (b : AtomLine) (later : List AtomLine) → atom_of (names_of held) n k b ≡ atom_of (names_of (held ++ b ∷ later)) n k b
+atom-final n k held b later = ap (λ (i : ℕ). at i) (sym (number-final held b later))
   where
-    at : ℕ → Site
+    at : ℕ → Atom
     at i = record { species = i; position = position_of n b; moment = moment_of k b }
 
-abbrev made : MomentKind → ScaledMetric → ℕ → ℕ → List (List ℕ) → List Site → Structure
-made kind metric n k names sites = record { names = names; scale = pos metric.scale; metric = metric.entries; n = n; k = k; kind = kind; sites = sites }
+abbrev made : MomentKind → ScaledMetric → ℕ → ℕ → List (List ℕ) → List Atom → Structure
+made kind metric n k names atoms = record { names = names; scale = pos metric.scale; metric = metric.entries; n = n; k = k; kind = kind; atoms = atoms }
 
-with_two : (kind : MomentKind) (metric : ScaledMetric) (n k : ℕ) (names ns : List (List ℕ)) (sites ss : List Site) → names ≡ ns → sites ≡ ss → made kind metric n k names sites ≡ made kind metric n k ns ss
-with_two kind metric n k names ns sites ss e f = ap (λ (xs : List (List ℕ)). made kind metric n k xs sites) e ∙ ap (made kind metric n k ns) f
+with_two : (kind : MomentKind) (metric : ScaledMetric) (n k : ℕ) (names ns : List (List ℕ)) (atoms ss : List Atom) → names ≡ ns → atoms ≡ ss → made kind metric n k names atoms ≡ made kind metric n k ns ss
+with_two kind metric n k names ns atoms ss e f = ap (λ (xs : List (List ℕ)). made kind metric n k xs atoms) e ∙ ap (made kind metric n k ns) f
 
-pub filled_more : (kind : MomentKind) (metric : ScaledMetric) (n k : ℕ) (all held : List AtomLine) (b : AtomLine) (later : List AtomLine) → all ≡ held ++ b ∷ later → with_site (filled kind metric n k all held) b ≡ filled kind metric n k all (held ++ b ∷ [])
+pub filled_more : (kind : MomentKind) (metric : ScaledMetric) (n k : ℕ) (all held : List AtomLine) (b : AtomLine) (later : List AtomLine) → all ≡ held ++ b ∷ later → with_atom (filled kind metric n k all held) b ≡ filled kind metric n k all (held ++ b ∷ [])
 filled_more kind metric n k all held b later e =
     let names = sym (names-more held b) in
-    let final = site-final n k held b later ∙ ap (λ (xs : List AtomLine). site_of (names_of xs) n k b) (sym e) in
-    let sites = ap (λ (s : Site). map (site_of (names_of all) n k) held ++ s ∷ []) final ∙ sym (map-append (site_of (names_of all) n k) held (b ∷ [])) in
-    with_two kind metric n k _ _ _ _ names sites
+    let final = atom-final n k held b later ∙ ap (λ (xs : List AtomLine). atom_of (names_of xs) n k b) (sym e) in
+    let atoms = ap (λ (s : Atom). map (atom_of (names_of all) n k) held ++ s ∷ []) final ∙ sym (map-append (atom_of (names_of all) n k) held (b ∷ [])) in
+    with_two kind metric n k _ _ _ _ names atoms
 
 -- ---- the number of a species
 
@@ -103,28 +103,28 @@ pub filled_first : (kind : MomentKind) (metric : ScaledMetric) (n k : ℕ) (all 
 unfolding names_of
 filled_first kind metric n k all b later e =
     let number : number_of (names_of all) b.name ≡ 0 = ap (λ (xs : List AtomLine). number_of (names_of xs) b.name) e ∙ number-final [] b later in
-    with_two kind metric n k _ _ _ _ refl (ap (λ (s : Site). s ∷ []) (ap at (sym number)))
+    with_two kind metric n k _ _ _ _ refl (ap (λ (s : Atom). s ∷ []) (ap at (sym number)))
   where
-    at : ℕ → Site
+    at : ℕ → Atom
     at i = record { species = i; position = position_of n b; moment = moment_of k b }
 
 -- no atom so far is at the position of the next
-pub free_more : (kind : MomentKind) (metric : ScaledMetric) (n k : ℕ) (all held : List AtomLine) (b : AtomLine) (later : List AtomLine) (cell : Structure) → all ≡ held ++ b ∷ later → n ≡ common_denominator (positions all) → 1 ≤ n → AreApart all → cell ≡ filled kind metric n k all held → NoneAt (position_of cell.n b) cell.sites
+pub free_more : (kind : MomentKind) (metric : ScaledMetric) (n k : ℕ) (all held : List AtomLine) (b : AtomLine) (later : List AtomLine) (cell : Structure) → all ≡ held ++ b ∷ later → n ≡ common_denominator (positions all) → 1 ≤ n → AreApart all → cell ≡ filled kind metric n k all held → NoneAt (position_of cell.n b) cell.atoms
 free_more kind metric n k all held b later cell e is some apart view =
     let divide : AllDivide n all = subst (λ (m : ℕ). AllDivide m all) (sym is) (all_divide 1 all) in
-    subst (λ (s : Structure). NoneAt (position_of s.n b) s.sites) (sym view) (none_before (names_of all) n k held b later some (subst (AllDivide n) e divide) (subst AreApart e apart))
+    subst (λ (s : Structure). NoneAt (position_of s.n b) s.atoms) (sym view) (none_before (names_of all) n k held b later some (subst (AllDivide n) e divide) (subst AreApart e apart))
 
-pub fewer_sites : (kind : MomentKind) (metric : ScaledMetric) (n k : ℕ) (all held : List AtomLine) (b : AtomLine) (later : List AtomLine) (cell : Structure) → all ≡ held ++ b ∷ later → length all ≤ MOST_ATOMS → cell ≡ filled kind metric n k all held → length cell.sites < MOST_ATOMS
-fewer_sites kind metric n k all held b later cell e few view =
-    omega (arith, ap (λ (s : Structure). length s.sites) view, length-map held (site_of (names_of all) n k), ap length e, length-append held (b ∷ later), few)
+pub fewer_atoms : (kind : MomentKind) (metric : ScaledMetric) (n k : ℕ) (all held : List AtomLine) (b : AtomLine) (later : List AtomLine) (cell : Structure) → all ≡ held ++ b ∷ later → length all ≤ MOST_ATOMS → cell ≡ filled kind metric n k all held → length cell.atoms < MOST_ATOMS
+fewer_atoms kind metric n k all held b later cell e few view =
+    omega (arith, ap (λ (s : Structure). length s.atoms) view, length-map held (atom_of (names_of all) n k), ap length e, length-append held (b ∷ later), few)
 
 pub fewer_names : (kind : MomentKind) (metric : ScaledMetric) (n k : ℕ) (all held : List AtomLine) (b : AtomLine) (later : List AtomLine) (cell : Structure) → all ≡ held ++ b ∷ later → length all ≤ MOST_ATOMS → cell ≡ filled kind metric n k all held → length cell.names < MOST_NAMES
 fewer_names kind metric n k all held b later cell e few view =
     omega (arith, ap (λ (s : Structure). length s.names) view, names_at_most held, ap length e, length-append held (b ∷ later), few)
 
-pub filled_next : (kind : MomentKind) (metric : ScaledMetric) (n k : ℕ) (all held more : List AtomLine) (b : AtomLine) (later : List AtomLine) (cell new : Structure) → all ≡ held ++ b ∷ later → more ≡ held ++ b ∷ [] → cell ≡ filled kind metric n k all held → new ≡ with_site cell b → new ≡ filled kind metric n k all more
+pub filled_next : (kind : MomentKind) (metric : ScaledMetric) (n k : ℕ) (all held more : List AtomLine) (b : AtomLine) (later : List AtomLine) (cell new : Structure) → all ≡ held ++ b ∷ later → more ≡ held ++ b ∷ [] → cell ≡ filled kind metric n k all held → new ≡ with_atom cell b → new ≡ filled kind metric n k all more
 filled_next kind metric n k all held more b later cell new e step view is =
-    is ∙ ap (λ (s : Structure). with_site s b) view ∙ filled_more kind metric n k all held b later e ∙ ap (filled kind metric n k all) (sym step)
+    is ∙ ap (λ (s : Structure). with_atom s b) view ∙ filled_more kind metric n k all held b later e ∙ ap (filled kind metric n k all) (sym step)
 
 pub names_next : (kind : MomentKind) (metric : ScaledMetric) (n k : ℕ) (all held more : List AtomLine) (b : AtomLine) (cell : Structure) (names : List (List ℕ)) → more ≡ held ++ b ∷ [] → cell ≡ filled kind metric n k all held → names ≡ with_name cell.names b.name → names ≡ names_of more
 names_next kind metric n k all held more b cell names step view is =

@@ -233,17 +233,17 @@ behind_a_blank_line : cell_fault (text_of (codes "magcell 1" ∷ codes "metric 1
 unfolding cell_fault heading_fault later_fault metric_fault atom_fault place_fault end_fault state_after version_of entry_of has_bad_byte is_metric_in_range is_positive are_positions_in_range are_moments_in_range positions moments same_place gcd lcm word_fault number_fault number_value lowest
 behind_a_blank_line = refl
 
-antiferromagnet : cell_of (lines (text_of (codes "magcell 1" ∷ codes "metric 1 1 4 0 0 0" ∷ codes "atom A 0 0 0 0 0 1" ∷ codes "atom A 0 0 1/2 0 0 -1" ∷ codes "end" ∷ []))) ≡ record { names = (65 ∷ []) ∷ []; scale = pos 1; metric = record { a11 = pos 1; a12 = pos 0; a13 = pos 0; a21 = pos 0; a22 = pos 1; a23 = pos 0; a31 = pos 0; a32 = pos 0; a33 = pos 4 }; n = 2; k = 1; kind = axial_vectors; sites = record { species = 0; position = record { x = pos 0; y = pos 0; z = pos 0 }; moment = record { x = pos 0; y = pos 0; z = pos 1 } } ∷ record { species = 0; position = record { x = pos 0; y = pos 0; z = pos 1 }; moment = record { x = pos 0; y = pos 0; z = negsuc 0 } } ∷ [] }
+antiferromagnet : cell_of (lines (text_of (codes "magcell 1" ∷ codes "metric 1 1 4 0 0 0" ∷ codes "atom A 0 0 0 0 0 1" ∷ codes "atom A 0 0 1/2 0 0 -1" ∷ codes "end" ∷ []))) ≡ record { names = (65 ∷ []) ∷ []; scale = pos 1; metric = record { a11 = pos 1; a12 = pos 0; a13 = pos 0; a21 = pos 0; a22 = pos 1; a23 = pos 0; a31 = pos 0; a32 = pos 0; a33 = pos 4 }; n = 2; k = 1; kind = axial_vectors; atoms = record { species = 0; position = record { x = pos 0; y = pos 0; z = pos 0 }; moment = record { x = pos 0; y = pos 0; z = pos 1 } } ∷ record { species = 0; position = record { x = pos 0; y = pos 0; z = pos 1 }; moment = record { x = pos 0; y = pos 0; z = negsuc 0 } } ∷ [] }
 unfolding cell_fault heading_fault later_fault metric_fault atom_fault place_fault end_fault state_after version_of entry_of has_bad_byte is_metric_in_range is_positive are_positions_in_range are_moments_in_range positions moments same_place gcd lcm word_fault number_fault number_value lowest names_of cell_with residue
 antiferromagnet = refl
 
-manganese_fluoride : cell_of (lines (text_of (codes "magcell 1" ∷ codes "metric 2375/100 2375/100 1096/100 0 0 0" ∷ codes "atom Mn 0 0 0 0 0 1" ∷ codes "atom Mn 1/2 1/2 1/2 0 0 -1" ∷ codes "atom F 61/200 61/200 0" ∷ codes "atom F -61/200 -61/200 0" ∷ codes "atom F 161/200 39/200 1/2" ∷ codes "atom F 39/200 161/200 1/2" ∷ codes "end" ∷ []))) ≡ record { names = (77 ∷ 110 ∷ []) ∷ (70 ∷ []) ∷ []; scale = pos 100; metric = record { a11 = pos 2375; a12 = pos 0; a13 = pos 0; a21 = pos 0; a22 = pos 2375; a23 = pos 0; a31 = pos 0; a32 = pos 0; a33 = pos 1096 }; n = 200; k = 1; kind = axial_vectors; sites = record { species = 0; position = record { x = pos 0; y = pos 0; z = pos 0 }; moment = record { x = pos 0; y = pos 0; z = pos 1 } } ∷ record { species = 0; position = record { x = pos 100; y = pos 100; z = pos 100 }; moment = record { x = pos 0; y = pos 0; z = negsuc 0 } } ∷ record { species = 1; position = record { x = pos 61; y = pos 61; z = pos 0 }; moment = record { x = pos 0; y = pos 0; z = pos 0 } } ∷ record { species = 1; position = record { x = pos 139; y = pos 139; z = pos 0 }; moment = record { x = pos 0; y = pos 0; z = pos 0 } } ∷ record { species = 1; position = record { x = pos 161; y = pos 39; z = pos 100 }; moment = record { x = pos 0; y = pos 0; z = pos 0 } } ∷ record { species = 1; position = record { x = pos 39; y = pos 161; z = pos 100 }; moment = record { x = pos 0; y = pos 0; z = pos 0 } } ∷ [] }
+manganese_fluoride : cell_of (lines (text_of (codes "magcell 1" ∷ codes "metric 2375/100 2375/100 1096/100 0 0 0" ∷ codes "atom Mn 0 0 0 0 0 1" ∷ codes "atom Mn 1/2 1/2 1/2 0 0 -1" ∷ codes "atom F 61/200 61/200 0" ∷ codes "atom F -61/200 -61/200 0" ∷ codes "atom F 161/200 39/200 1/2" ∷ codes "atom F 39/200 161/200 1/2" ∷ codes "end" ∷ []))) ≡ record { names = (77 ∷ 110 ∷ []) ∷ (70 ∷ []) ∷ []; scale = pos 100; metric = record { a11 = pos 2375; a12 = pos 0; a13 = pos 0; a21 = pos 0; a22 = pos 2375; a23 = pos 0; a31 = pos 0; a32 = pos 0; a33 = pos 1096 }; n = 200; k = 1; kind = axial_vectors; atoms = record { species = 0; position = record { x = pos 0; y = pos 0; z = pos 0 }; moment = record { x = pos 0; y = pos 0; z = pos 1 } } ∷ record { species = 0; position = record { x = pos 100; y = pos 100; z = pos 100 }; moment = record { x = pos 0; y = pos 0; z = negsuc 0 } } ∷ record { species = 1; position = record { x = pos 61; y = pos 61; z = pos 0 }; moment = record { x = pos 0; y = pos 0; z = pos 0 } } ∷ record { species = 1; position = record { x = pos 139; y = pos 139; z = pos 0 }; moment = record { x = pos 0; y = pos 0; z = pos 0 } } ∷ record { species = 1; position = record { x = pos 161; y = pos 39; z = pos 100 }; moment = record { x = pos 0; y = pos 0; z = pos 0 } } ∷ record { species = 1; position = record { x = pos 39; y = pos 161; z = pos 100 }; moment = record { x = pos 0; y = pos 0; z = pos 0 } } ∷ [] }
 unfolding cell_fault heading_fault later_fault metric_fault atom_fault place_fault end_fault state_after version_of entry_of has_bad_byte is_metric_in_range is_positive are_positions_in_range are_moments_in_range positions moments same_place gcd lcm word_fault number_fault number_value lowest names_of cell_with residue
 manganese_fluoride = refl
 
 -- three atoms of two species, with n = 6 and k = 2
 abbrev three_atoms : Structure
-three_atoms = record { names = codes "Mn" ∷ codes "F_1" ∷ []; scale = pos 1; metric = record { a11 = pos 2; a12 = pos 0; a13 = pos 0; a21 = pos 0; a22 = pos 2; a23 = pos 0; a31 = pos 0; a32 = pos 0; a33 = pos 2 }; n = 6; k = 2; kind = axial_vectors; sites = record { species = 0; position = record { x = pos 0; y = pos 0; z = pos 0 }; moment = record { x = pos 0; y = pos 0; z = pos 1 } } ∷ record { species = 1; position = record { x = pos 3; y = pos 4; z = pos 0 }; moment = record { x = pos 0; y = pos 0; z = pos 0 } } ∷ record { species = 0; position = record { x = pos 3; y = pos 0; z = pos 0 }; moment = record { x = pos 2; y = pos 0; z = pos 0 } } ∷ [] }
+three_atoms = record { names = codes "Mn" ∷ codes "F_1" ∷ []; scale = pos 1; metric = record { a11 = pos 2; a12 = pos 0; a13 = pos 0; a21 = pos 0; a22 = pos 2; a23 = pos 0; a31 = pos 0; a32 = pos 0; a33 = pos 2 }; n = 6; k = 2; kind = axial_vectors; atoms = record { species = 0; position = record { x = pos 0; y = pos 0; z = pos 0 }; moment = record { x = pos 0; y = pos 0; z = pos 1 } } ∷ record { species = 1; position = record { x = pos 3; y = pos 4; z = pos 0 }; moment = record { x = pos 0; y = pos 0; z = pos 0 } } ∷ record { species = 0; position = record { x = pos 3; y = pos 0; z = pos 0 }; moment = record { x = pos 2; y = pos 0; z = pos 0 } } ∷ [] }
 
 three_atoms_in_lowest_terms_and_others : (cell_fault (text_of (codes "magcell 1" ∷ codes "metric 2 2 4/2 0 0 -0" ∷ codes "atom Mn 0 0 0 0 0 1/2" ∷ codes "atom F_1 2/4 -1/3 7" ∷ codes "atom Mn 1/2 0 0 1 0 0" ∷ codes "end" ∷ [])) ≡ None) × (cell_of (lines (text_of (codes "magcell 1" ∷ codes "metric 2 2 4/2 0 0 -0" ∷ codes "atom Mn 0 0 0 0 0 1/2" ∷ codes "atom F_1 2/4 -1/3 7" ∷ codes "atom Mn 1/2 0 0 1 0 0" ∷ codes "end" ∷ []))) ≡ three_atoms)
 unfolding cell_fault heading_fault later_fault metric_fault atom_fault place_fault end_fault state_after version_of entry_of has_bad_byte is_metric_in_range is_positive are_positions_in_range are_moments_in_range positions moments same_place gcd lcm word_fault number_fault number_value lowest names_of cell_with residue
@@ -255,7 +255,7 @@ three_atoms_between_blanks_and_comments = (refl, refl)
 
 -- the units n and k, and how many atoms there are
 abbrev units : Structure → ℕ × (ℕ × ℕ)
-units c = (c.n, (c.k, length c.sites))
+units c = (c.n, (c.k, length c.atoms))
 
 units_of_the_largest_moment : units (cell_of (lines (text_of (codes "magcell 1" ∷ codes "metric 1 1 1 0 0 0" ∷ codes "atom A 0 0 0 0 0 1000000000" ∷ codes "end" ∷ [])))) ≡ (1, (1, 1))
 unfolding cell_fault heading_fault later_fault metric_fault atom_fault place_fault end_fault state_after version_of entry_of has_bad_byte is_metric_in_range is_positive are_positions_in_range are_moments_in_range positions moments same_place gcd lcm word_fault number_fault number_value lowest names_of cell_with residue
@@ -350,7 +350,7 @@ abbrev scalars : List (List ℕ)
 scalars = codes "magcell 2" ∷ codes "kind scalar axial" ∷ codes "atom A 0 0 0 1" ∷ codes "atom A 0 0 1/2 -1/2" ∷ codes "atom A 1/2 0 0" ∷ codes "metric 1 1 4 0 0 0" ∷ codes "end" ∷ []
 
 scalars_are_read : (cell_fault (text_of scalars) ≡ None)
-    × (cell_of (lines (text_of scalars)) ≡ record { names = (65 ∷ []) ∷ []; scale = pos 1; metric = record { a11 = pos 1; a12 = pos 0; a13 = pos 0; a21 = pos 0; a22 = pos 1; a23 = pos 0; a31 = pos 0; a32 = pos 0; a33 = pos 4 }; n = 2; k = 2; kind = kind false true; sites = record { species = 0; position = record { x = pos 0; y = pos 0; z = pos 0 }; moment = record { x = pos 2; y = pos 0; z = pos 0 } } ∷ record { species = 0; position = record { x = pos 0; y = pos 0; z = pos 1 }; moment = record { x = negsuc 0; y = pos 0; z = pos 0 } } ∷ record { species = 0; position = record { x = pos 1; y = pos 0; z = pos 0 }; moment = record { x = pos 0; y = pos 0; z = pos 0 } } ∷ [] })
+    × (cell_of (lines (text_of scalars)) ≡ record { names = (65 ∷ []) ∷ []; scale = pos 1; metric = record { a11 = pos 1; a12 = pos 0; a13 = pos 0; a21 = pos 0; a22 = pos 1; a23 = pos 0; a31 = pos 0; a32 = pos 0; a33 = pos 4 }; n = 2; k = 2; kind = kind false true; atoms = record { species = 0; position = record { x = pos 0; y = pos 0; z = pos 0 }; moment = record { x = pos 2; y = pos 0; z = pos 0 } } ∷ record { species = 0; position = record { x = pos 0; y = pos 0; z = pos 1 }; moment = record { x = negsuc 0; y = pos 0; z = pos 0 } } ∷ record { species = 0; position = record { x = pos 1; y = pos 0; z = pos 0 }; moment = record { x = pos 0; y = pos 0; z = pos 0 } } ∷ [] })
 unfolding cell_fault heading_fault later_fault metric_fault kind_fault atom_fault place_fault end_fault state_after version_of entry_of has_bad_byte is_metric_in_range is_positive are_positions_in_range are_moments_in_range positions moments same_place gcd lcm word_fault number_fault number_value lowest names_of cell_with residue
 scalars_are_read = (refl, refl)
 

@@ -11,3 +11,4 @@ mod Apart
 pub mod NameLemmas
 mod Fillings
 pub mod PassedLines
+mod SpelledSizes

@@ -12,7 +12,7 @@ use Rattle.crystal.specs.Numbering.{AreByFirstUse}
 use Rattle.plain_text.specs.Text.{lines}
 use Rattle.cell_text.specs.Lines.{same_word}
 use Rattle.cell_text.specs.Entries.{AtomLine, Contents, contents}
-use Rattle.cell_text.specs.CellFile.{with_name, names_of, number_of, site_of, cell_with, Spells}
+use Rattle.cell_text.specs.CellFile.{with_name, names_of, number_of, atom_of, cell_with, Spells}
 use Rattle.plain_text.proofs.DigitLemmas.{fold-append}
 
 same_self : (w : List ℕ) → same_word w w ≡ true
@@ -178,7 +178,7 @@ new_member names w h = none_member names w (new_any names w h)
 -- ---- species are numbered by first use
 
 -- behind these names, each atom has one of them or the next
-later_numbered : (names : List (List ℕ)) (n k : ℕ) (later : List AtomLine) → AreByFirstUse (length names) (length (fold add names later)) (map (site_of (fold add names later) n k) later)
+later_numbered : (names : List (List ℕ)) (n k : ℕ) (later : List AtomLine) → AreByFirstUse (length names) (length (fold add names later)) (map (atom_of (fold add names later) n k) later)
 later_numbered names n k [] = refl
 later_numbered names n k (a ∷ later) = by (list_any (same_word a.name) names) refl (later_numbered (with_name names a.name) n k later)
   where
@@ -188,19 +188,19 @@ later_numbered names n k (a ∷ later) = by (list_any (same_word a.name) names) 
     number : number_of all a.name ≡ number_of names a.name
     number = fold_kept (with_name names a.name) later a.name (any_with names a.name) ∙ number_with names a.name
 
-    by : (b : Bool) → list_any (same_word a.name) names ≡ b → AreByFirstUse (length (with_name names a.name)) (length all) (map (site_of all n k) later) → AreByFirstUse (length names) (length all) (map (site_of all n k) (a ∷ later))
+    by : (b : Bool) → list_any (same_word a.name) names ≡ b → AreByFirstUse (length (with_name names a.name)) (length all) (map (atom_of all n k) later) → AreByFirstUse (length names) (length all) (map (atom_of all n k) (a ∷ later))
     by true e rest = inl (
       subst (λ (i : ℕ). i < length names) (sym number) (position_below (same_word a.name) names e),
-      subst (λ (ns : List (List ℕ)). AreByFirstUse (length ns) (length all) (map (site_of all n k) later)) (with-old names a.name e) rest,
+      subst (λ (ns : List (List ℕ)). AreByFirstUse (length ns) (length all) (map (atom_of all n k) later)) (with-old names a.name e) rest,
     )
     by false e rest =
         let more : length (with_name names a.name) ≡ suc (length names) = omega (arith, ap length (with-new names a.name e), length-append names (a.name ∷ [])) in
-        inr (number ∙ position_none (same_word a.name) names e, subst (λ (m : ℕ). AreByFirstUse m (length all) (map (site_of all n k) later)) more rest)
+        inr (number ∙ position_none (same_word a.name) names e, subst (λ (m : ℕ). AreByFirstUse m (length all) (map (atom_of all n k) later)) more rest)
 
-contents_numbered : (held : Contents) → AreByFirstUse 0 (length (cell_with held).names) (cell_with held).sites
+contents_numbered : (held : Contents) → AreByFirstUse 0 (length (cell_with held).names) (cell_with held).atoms
 unfolding cell_with names_of
 contents_numbered held = later_numbered [] (cell_with held).n (cell_with held).k held.atoms
 
 -- species of a cell that is spelled are numbered by first use
-pub spelled_numbered : (text : List ℕ) (c : Structure) → Spells text c → AreByFirstUse 0 (length c.names) c.sites
-spelled_numbered text c spelled = subst (λ (t : Structure). AreByFirstUse 0 (length t.names) t.sites) (sym spelled.is) (contents_numbered (contents (lines text)))
+pub spelled_numbered : (text : List ℕ) (c : Structure) → Spells text c → AreByFirstUse 0 (length c.names) c.atoms
+spelled_numbered text c spelled = subst (λ (t : Structure). AreByFirstUse 0 (length t.names) t.atoms) (sym spelled.is) (contents_numbered (contents (lines text)))

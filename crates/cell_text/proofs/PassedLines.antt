@@ -10,7 +10,7 @@ use Rattle.cell_text.specs.declared.fault.CellFault.TheVariants.{BadByte, BadLin
 use Rattle.plain_text.specs.Text.{lines, has_bad_byte}
 use Rattle.plain_text.specs.FirstFaults.{when, first_of}
 use Rattle.cell_text.specs.Lines.{word_fault, Entry, skipped, metric_entry, atom_entry, end_entry, kind_entry, other_entry, entry_of}
-use Rattle.cell_text.specs.Entries.{AtomLine, Contents, State, with_entry, next_state, with_line, state_after, contents, values, atom_of, metric_of, kind_of, is_metric_in_range, is_positive, are_positions_in_range, are_moments_in_range}
+use Rattle.cell_text.specs.Entries.{AtomLine, Contents, State, with_entry, next_state, with_line, state_after, contents, values, atom_line_of, metric_of, kind_of, is_metric_in_range, is_positive, are_positions_in_range, are_moments_in_range}
 use Rattle.cell_text.specs.Rules.{same_place, metric_fault, place_fault, are_numbers_of, atom_fault, end_fault, entry_fault, later_fault, judged_by, judged, fault_after, fault_at_end, numbered, first_fault, cell_fault}
 use Rattle.cell_text.proofs.Judging.{IsEntry, entry_is, state_after-more}
 
@@ -48,7 +48,7 @@ atom_faults version held name ws =
     when (not (are_numbers_of (kind_of held) (length ws))) BadLine
     ∷ when (nat_le MOST_ATOMS (length held.atoms)) TooManyAtoms
     ∷ first_of (map (word_fault version) ws)
-    ∷ place_fault held (atom_of name (values ws))
+    ∷ place_fault held (atom_line_of name (values ws))
     ∷ []
 
 abbrev end_faults : Contents → List (Option CellFault)
@@ -70,10 +70,10 @@ unfolding atom_fault
 atom_numbers version held name ws e = all_none (atom_faults version held name ws) 2 e
 
 -- moments are within their range with its moment
-pub moments_fit : (version : Version) (held : Contents) (name : List ℕ) (ws : List (List ℕ)) → atom_fault version held name ws ≡ None → are_moments_in_range (held.atoms ++ atom_of name (values ws) ∷ []) ≡ true
+pub moments_fit : (version : Version) (held : Contents) (name : List ℕ) (ws : List (List ℕ)) → atom_fault version held name ws ≡ None → are_moments_in_range (held.atoms ++ atom_line_of name (values ws) ∷ []) ≡ true
 unfolding atom_fault place_fault
 moments_fit version held name ws e =
-    let a = atom_of name (values ws) in
+    let a = atom_line_of name (values ws) in
     kept (are_moments_in_range (held.atoms ++ a ∷ [])) MomentRange (all_none (place_faults held a) 1 (all_none (atom_faults version held name ws) 3 e))
 
 not_missing : (n : ℕ) → when (n == 0) MetricMissing ≡ None → 0 < n

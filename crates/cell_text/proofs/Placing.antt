@@ -15,7 +15,7 @@ use Rattle.crystal_spec.specs.declared.MomentKind.{MomentKind}
 use Rattle.plain_text.specs.NumberWords.{common_denominator}
 use Rattle.plain_text.specs.FirstFaults.{when, or_else}
 use Rattle.numbers.specs.Gcd.{lcm}
-use Rattle.cell_text.specs.Entries.{AtomLine, State, kind_of, values, atom_of, moments, positions, is_same_place}
+use Rattle.cell_text.specs.Entries.{AtomLine, State, kind_of, values, atom_line_of, moments, positions, is_same_place}
 use Rattle.cell_text.specs.Rules.{same_place, same_place_from, place_fault, are_numbers_of}
 use Rattle.cell_text.specs.Views.{atom_view, AreApart, IsOfScalar, AreOfKind}
 use Rattle.plain_text.specs.Views.{Grown}
@@ -117,10 +117,10 @@ few_numbers kind count e scalar = by (or_cases (count == 3) (count == 4) (subst 
     by (inl a) = omega (arith, eqb-true count 3 a)
     by (inr b) = omega (arith, eqb-true count 4 b)
 
-pub scalar_numbers : (kind : MomentKind) (name : List ℕ) (ws : List (List ℕ)) → are_numbers_of kind (length ws) ≡ true → kind.vector ≡ false → IsOfScalar (atom_of name (values ws))
+pub scalar_numbers : (kind : MomentKind) (name : List ℕ) (ws : List (List ℕ)) → are_numbers_of kind (length ws) ≡ true → kind.vector ≡ false → IsOfScalar (atom_line_of name (values ws))
 scalar_numbers kind name ws e scalar = by ws (few_numbers kind (length ws) e scalar)
   where
-    by : (us : List (List ℕ)) → length us ≤ 4 → IsOfScalar (atom_of name (values us))
+    by : (us : List (List ℕ)) → length us ≤ 4 → IsOfScalar (atom_line_of name (values us))
     by [] h = (refl, refl)
     by (t ∷ []) h = (refl, refl)
     by (t ∷ u ∷ []) h = (refl, refl)

@@ -1,7 +1,7 @@
 -- The cell that a cell file spells.
 --   names_of as     the names of the atoms, in the order of their first use
 --   number_of ns w  which of the names it is, from 0
---   site_of ns n k  the atom of a cell, with its position in units of 1/n modulo n and its moment in units of 1/k
+--   atom_of ns n k  the atom of a cell, with its position in units of 1/n modulo n and its moment in units of 1/k
 --   cell_with held  the cell of these contents: scale, n and k are the least common denominators of the metric tensor, of
 --                   all positions and of all moments
 --   Spells text c   no line of the text breaks a rule, and c is the cell of its lines
@@ -10,7 +10,7 @@ use Rattle.std.specs.List.{fold, list_any, position_or_len}
 use Rattle.std.specs.declared.option.Option.TheVariants.{None}
 use Rattle.numbers.specs.Residue.{residue}
 use Rattle.crystal_spec.specs.Matrices.{Triple}
-use Rattle.crystal_spec.specs.Crystals.{Site, Structure}
+use Rattle.crystal_spec.specs.Crystals.{Atom, Structure}
 use Rattle.plain_text.specs.Text.{lines}
 use Rattle.numbers.specs.Fraction.{Fraction}
 use Rattle.plain_text.specs.NumberWords.{common_denominator, scaled}
@@ -38,8 +38,8 @@ position_of n a = record { x = part_of n a.x; y = part_of n a.y; z = part_of n a
 abbrev pub moment_of : ℕ → AtomLine → Triple
 moment_of k a = record { x = scaled k a.ma; y = scaled k a.mb; z = scaled k a.mc }
 
-abbrev pub site_of : List (List ℕ) → ℕ → ℕ → AtomLine → Site
-site_of names n k a = record { species = number_of names a.name; position = position_of n a; moment = moment_of k a }
+abbrev pub atom_of : List (List ℕ) → ℕ → ℕ → AtomLine → Atom
+atom_of names n k a = record { species = number_of names a.name; position = position_of n a; moment = moment_of k a }
 
 -- what stands for the metric where there is no metric line
 abbrev pub no_metric : ScaledMetric
@@ -53,7 +53,7 @@ cell_with held = record {
   n = common_denominator (positions held.atoms);
   k = common_denominator (moments held.atoms);
   kind = kind_of held;
-  sites = map (site_of (names_of held.atoms) (common_denominator (positions held.atoms)) (common_denominator (moments held.atoms))) held.atoms;
+  atoms = map (atom_of (names_of held.atoms) (common_denominator (positions held.atoms)) (common_denominator (moments held.atoms))) held.atoms;
 }
 
 abbrev pub cell_of : List (List ℕ) → Structure

@@ -1,5 +1,5 @@
 -- What the lines of a cell file say: atoms, a metric tensor and a kind of moments, and their ranges.
---   AtomLine, atom_of name fs     the name, position and moment of an atom line with these numbers
+--   AtomLine, atom_line_of name fs     the name, position and moment of an atom line with these numbers
 --   ScaledMetric, metric_of fs    the metric tensor of a metric line with these numbers, with its least scale
 --   Contents, with_entry held e   the kinds, metric tensors and atoms of some lines, and whether `end` is among them; one line more
 --   kind_of held                  the kind of the moments: axial vectors where no line says it
@@ -40,8 +40,8 @@ pub record AtomLine : Type 0 where
   pub mc : Fraction
 
 -- the atom of this name with the numbers x y z ma mb mc; of x y z s, with the moment s 0 0; of x y z alone, with 0 0 0
-abbrev pub atom_of : List ℕ → List Fraction → AtomLine
-atom_of name fs = record { name = name; x = number_at fs 0; y = number_at fs 1; z = number_at fs 2; ma = number_at fs 3; mb = number_at fs 4; mc = number_at fs 5 }
+abbrev pub atom_line_of : List ℕ → List Fraction → AtomLine
+atom_line_of name fs = record { name = name; x = number_at fs 0; y = number_at fs 1; z = number_at fs 2; ma = number_at fs 3; mb = number_at fs 4; mc = number_at fs 5 }
 
 -- ---- the metric tensor
 
@@ -104,7 +104,7 @@ kind_of held = get_or held.kinds 0 axial_vectors
 abbrev pub with_entry : Contents → Entry → Contents
 with_entry held skipped = held
 with_entry held (metric_entry ws) = with_metric held (metric_of (values ws))
-with_entry held (atom_entry name ws) = with_atom held (atom_of name (values ws))
+with_entry held (atom_entry name ws) = with_atom held (atom_line_of name (values ws))
 with_entry held end_entry = with_end held
 with_entry held (kind_entry kind) = with_kind held kind
 with_entry held other_entry = held

@@ -18,7 +18,7 @@ use Rattle.cell_text.specs.declared.fault.CellFault.TheVariants.{NotMagcell, Bad
 use Rattle.plain_text.specs.Text.{lines, has_bad_byte}
 use Rattle.plain_text.specs.FirstFaults.{when, or_else, first_of}
 use Rattle.cell_text.specs.Lines.{word_fault, version_of, Entry, skipped, metric_entry, atom_entry, end_entry, kind_entry, other_entry, entry_of}
-use Rattle.cell_text.specs.Entries.{AtomLine, Contents, State, values, atom_of, metric_of, kind_of, state_after, contents, is_metric_in_range, is_positive, are_positions_in_range, are_moments_in_range, is_same_place}
+use Rattle.cell_text.specs.Entries.{AtomLine, Contents, State, values, atom_line_of, metric_of, kind_of, state_after, contents, is_metric_in_range, is_positive, are_positions_in_range, are_moments_in_range, is_same_place}
 
 -- Atom number j stands at the position of one of these, which are numbered from i: the first such.
 abbrev pub same_place_from : ℕ → ℕ → List AtomLine → AtomLine → Option CellFault
@@ -70,7 +70,7 @@ atom_fault version before name ws = first_of
     (when (not (are_numbers_of (kind_of before) (length ws))) BadLine
     ∷ when (nat_le MOST_ATOMS (length before.atoms)) TooManyAtoms
     ∷ first_of (map (word_fault version) ws)
-    ∷ place_fault before (atom_of name (values ws))
+    ∷ place_fault before (atom_line_of name (values ws))
     ∷ [])
 
 -- An end line.

@@ -2,7 +2,7 @@
 ghost use Rattle.std.specs.Prelude.{true, ◌≡◌, ◌≤◌, ◌+◌, ◌++◌, map, length, MatchResult, Some, None, [], ◌∷◌};
 ghost use Rattle.std.specs.List.{list_all};
 ghost use Rattle.plain_text.specs.NumberWords.{scaled};
-ghost use Rattle.cell_text.specs.Entries.{values, atom_of, moments, is_billion, is_same_place};
+ghost use Rattle.cell_text.specs.Entries.{values, atom_line_of, moments, is_billion, is_same_place};
 ghost use Rattle.cell_text.specs.Rules.{same_place, are_numbers_of};
 ghost use Rattle.cell_text.specs.Views.{atom_view, words_view, numbers_view, first_three, moment_view, ReadsWords};
 
@@ -47,7 +47,7 @@ pub(crate) fn read_atom(
     position: ThreeWords,
     moment: MomentWords,
 ) -> Result<AtomLine, CellFault>
-    ensures { ReadsWords version (words_view position.entry ++ moment_view moment.entry) (λ a. atom_view a ≡ atom_of name (values (words_view position.entry ++ moment_view moment.entry))) result }
+    ensures { ReadsWords version (words_view position.entry ++ moment_view moment.entry) (λ a. atom_view a ≡ atom_line_of name (values (words_view position.entry ++ moment_view moment.entry))) result }
 {
     let position = read_numbers(version, position)?;
     let moment = read_moment(version, moment)?;

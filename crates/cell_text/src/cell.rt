@@ -6,14 +6,14 @@ ghost use Rattle.crystal.specs.Occupants.{NoneAt};
 ghost use Rattle.plain_text.specs.NumberWords.{common_denominator};
 ghost use Rattle.cell_text.specs.Entries.{positions, moments, is_positive};
 ghost use Rattle.cell_text.specs.CellFile.{with_name, number_of, position_of, moment_of, cell_with};
-ghost use Rattle.cell_text.specs.Filling.{with_site, whole_of};
+ghost use Rattle.cell_text.specs.Filling.{with_atom, whole_of};
 ghost use Rattle.cell_text.specs.Views.{atom_view, AreApart, AreOfKind};
 ghost use Rattle.cell_text.specs.Readers.{metric_view, kinds_of, kind_or_default};
 
 use crate::atom_line::AtomLine;
+use crate::in_units::{moment_of, position_of};
 use crate::names::{first_names, number_name};
 use crate::scaled_metric::ScaledMetric;
-use crate::site::{moment_of, position_of};
 use crystal::{Atom, Cell, MOST_ATOMS, MOST_NAMES, MomentKind, Name};
 use exact_num::Int;
 use indexmap::IndexSet;
@@ -57,10 +57,10 @@ fn add_atom(
     requires n_at_most { cell.old.n ≤ 10 ^ 6 }
     requires k_at_most { cell.old.k ≤ 10 ^ 6 }
     requires of_kind { IsOfKind cell.old.kind (moment_of cell.old.k (atom_view atom.now)) }
-    requires free { NoneAt (position_of cell.old.n (atom_view atom.now)) cell.old.sites }
+    requires free { NoneAt (position_of cell.old.n (atom_view atom.now)) cell.old.atoms }
     requires fewer_names { length cell.old.names < MOST_NAMES }
-    requires fewer { length cell.old.sites < MOST_ATOMS }
-    ensures cell { OnOk result (cell.new ≡ with_site cell.old (atom_view atom.now)) }
+    requires fewer { length cell.old.atoms < MOST_ATOMS }
+    ensures cell { OnOk result (cell.new ≡ with_atom cell.old (atom_view atom.now)) }
     ensures names { OnOk result (map (λ v. v.items) names.new.keys ≡ with_name cell.old.names atom.now.name) }
 {
     let name = Vec::from_slice(alloc, atom.name.as_bytes())?;
@@ -98,7 +98,7 @@ fn first_cell(
     requires k_at_least { 1 ≤ k }
     requires k_at_most { k ≤ 10 ^ 6 }
     requires of_kind { IsOfKind kind (moment_of k (atom_view atom.now)) }
-    ensures { IfOk result (λ c. c ≡ record { names = atom.now.name ∷ []; scale = pos metric.now.scale; metric = tensor metric.now.metric; n = n; k = k; kind = kind; sites = record { species = 0; position = position_of n (atom_view atom.now); moment = moment_of k (atom_view atom.now) } ∷ [] }) }
+    ensures { IfOk result (λ c. c ≡ record { names = atom.now.name ∷ []; scale = pos metric.now.scale; metric = tensor metric.now.metric; n = n; k = k; kind = kind; atoms = record { species = 0; position = position_of n (atom_view atom.now); moment = moment_of k (atom_view atom.now) } ∷ [] }) }
 {
     let first = Atom {
         species: 0,

@@ -3,7 +3,7 @@ ghost use Rattle.std.specs.Prelude.{true, false, ◌≡◌, ◌<◌, ◌≤◌, 
 ghost use Rattle.std.specs.List.{list_all};
 ghost use Rattle.plain_text.specs.Text.{words};
 ghost use Rattle.plain_text.specs.NumberWords.{scaled};
-ghost use Rattle.cell_text.specs.Entries.{start, with_metric, with_atom, with_end, with_kind, with_entry, with_line, kind_of, moments, is_billion, atom_of, metric_of, values};
+ghost use Rattle.cell_text.specs.Entries.{start, with_metric, with_atom, with_end, with_kind, with_entry, with_line, kind_of, moments, is_billion, atom_line_of, metric_of, values};
 ghost use Rattle.cell_text.specs.Rules.{metric_fault, place_fault, kind_fault, atom_fault, end_fault, entry_fault, later_fault, judged};
 ghost use Rattle.cell_text.specs.CellFile.{cell_with};
 ghost use Rattle.cell_text.specs.Views.{Judges, IsOfScalar, atom_view, entry_view, words_view, moment_view};
@@ -132,7 +132,7 @@ impl Reader {
         moment: MomentWords,
     ) -> Result<(), LineError>
         ensures judged { Judges (atom_fault version self.old.held name (words_view position.entry ++ moment_view moment.entry)) result }
-        ensures next { OnOk result (self.new ≡ record self.old { held = with_atom self.old.held (atom_of name (values (words_view position.entry ++ moment_view moment.entry))) }) }
+        ensures next { OnOk result (self.new ≡ record self.old { held = with_atom self.old.held (atom_line_of name (values (words_view position.entry ++ moment_view moment.entry))) }) }
     {
         if !is_of_kind(kind_or_default(self.kind), &moment) {
             return Err(LineError::Fault(CellFault::BadLine));

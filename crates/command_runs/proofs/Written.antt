@@ -1,5 +1,5 @@
 -- What was written, or was refused, is the outcome of the words that asked for it.
-use Rattle.std.proofs.Common.{◌≡◌, ◌⊎◌, refl, sym, ap, subst, ◌∙◌, ℕ, suc, Bool, true, false, List, inl, inr}
+use Rattle.std.proofs.Common.{◌≡◌, ◌⊎◌, refl, sym, subst, ℕ, suc, Bool, true, false, List, inl, inr}
 use Rattle.std.specs.Prelude.{IfOk, OnErr}
 use Rattle.std.specs.declared.result.Result.{Result}
 use Rattle.std.specs.declared.result.Result.TheVariants.{Ok, Err}
@@ -20,7 +20,7 @@ use Rattle.answers.specs.Answers.{IsAnswer, IsHallAnswer, IsSeedAnswer, IsTableA
 use Rattle.run_status.specs.declared.status.Status.{Status}
 use Rattle.run_status.specs.declared.status.Status.TheVariants.{Done, NoMatch, Different, NotAllowed, Usage, CellTooLong, CellRefused, NoSuchAtom, OtherTooLong, OtherRefused, SymbolRefused, TableRefused, TableTooLong, ReadFault, WriteFault, Memory, TooWide}
 use Rattle.command_runs.specs.Outcomes.{Streams, Outcome, AnswersTo, IsReportOnInput, IsReportOnTable, HasTable, LeavesInput, IsTableWanted, IsOtherWanted, SpellsInput, MayWantMemory, WritesReport, limit_of, TakesFile}
-use Rattle.command_runs.specs.Writings.{IsWritten, IsTold, IsFinished, IsTakenUpTo, RefusesInput, IsTableOf, RefusesTable, IsCellOf, RefusesOther}
+use Rattle.command_runs.specs.Writings.{IsWritten, IsTold, IsFinished, IsTakenUpTo, RefusesInput, RefusesTable, IsCellOf, RefusesOther}
 
 -- ---- reports
 

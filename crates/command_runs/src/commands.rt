@@ -10,6 +10,7 @@ ghost use Rattle.io_edge.specs.Reading.{TakesAtMost, StopsAtEnd};
 ghost use Rattle.io_edge.specs.Shelves.{TakesAtMostOfFile};
 ghost use Rattle.run_status.specs.StatusKinds.{kind_of, IsDone, IsRefusal};
 ghost use Rattle.crystal_spec.specs.Crystals.{Structure};
+ghost use Rattle.crystal.specs.Sizes.{HasSizesOfRead};
 ghost use Rattle.command_runs.specs.Outcomes.{streams, Outcome, IsAskedOfCell, IsFileWanted, SpellsInput, TakesFile};
 ghost use Rattle.command_runs.specs.Writings.{IsWritten, IsTold, IsFinished, IsTakenUpTo, RefusesInput, IsTableOf, RefusesTable, IsCellOf, RefusesOther};
 
@@ -35,6 +36,7 @@ const TABLE_LIMIT: usize = 1_048_576;
 /// The cell that the input spells, or the status that says why there is none.
 fn cell_of_input<I: Source>(alloc: Global, input: &mut I) -> Result<Cell, Status>
     ensures accepted { IfOk result (λ cell. SpellsInput (I.state input.old) (I.state input.new) cell) }
+    ensures sizes { IfOk result HasSizesOfRead }
     ensures refused { IfErr result (λ status. RefusesInput I.highest_count (I.state input.old) (I.state input.new) status) }
     ensures taken { TakesAtMost 262145 (I.state input.old) (I.state input.new) }
     ensures stops { StopsAtEnd (I.state input.old) (I.state input.new) }
@@ -78,6 +80,7 @@ fn table_of_file<F: Shelf>(alloc: Global, shelf: &mut F, name: &[u8]) -> Result<
 /// The cell that the file of this name spells, or the status that says why there is none.
 fn cell_of_file<F: Shelf>(alloc: Global, shelf: &mut F, name: &[u8]) -> Result<Cell, Status>
     ensures spelled { IfOk result (λ cell. IsCellOf (F.state shelf.old) (F.state shelf.new) name.now cell) }
+    ensures sizes { IfOk result HasSizesOfRead }
     ensures refused { IfErr result (λ status. RefusesOther F.highest_count (F.state shelf.old) (F.state shelf.new) name.now status) }
     ensures taken { TakesAtMostOfFile 262145 name.now (F.state shelf.old) (F.state shelf.new) }
     ensures files { (F.state shelf.new).files ≡ (F.state shelf.old).files }

@@ -15,44 +15,37 @@ use prim_cell::Primitive;
 use std::alloc::{AllocError, Global};
 
 /// Adds a translation in lowest terms, behind a plus, where it is not 0.
-fn push_shift(alloc: Global, out: &mut Bytes, shift: Frac) -> Result<(), AllocError>
+fn push_shift(out: &mut Bytes, shift: Frac) -> Result<(), AllocError>
     ensures { OnOk result (out.new ≡ out.old ++ shift_text (fraction_of shift)) }
 {
     if shift.num() == 0 {
         return Ok(());
     }
     out.push(b'+')?;
-    push_number(alloc, out, shift.num(), shift.den().unsigned_abs())?;
+    push_number(out, shift.num(), shift.den().unsigned_abs())?;
     Ok(())
 }
 
 /// Adds the part of a coordinate: the terms of a row of the matrix, and a translation.
-fn push_coordinate(
-    alloc: Global,
-    out: &mut Bytes,
-    x: Int,
-    y: Int,
-    z: Int,
-    shift: Frac,
-) -> Result<(), AllocError>
+fn push_coordinate(out: &mut Bytes, x: Int, y: Int, z: Int, shift: Frac) -> Result<(), AllocError>
     ensures { OnOk result (out.new ≡ out.old ++ coordinate_text x y z (fraction_of shift)) }
 {
-    push_terms(alloc, out, x.get(), y.get(), z.get())?;
-    push_shift(alloc, out, shift)?;
+    push_terms(out, x.get(), y.get(), z.get())?;
+    push_shift(out, shift)?;
     Ok(())
 }
 
 /// Adds the line of a map.
-fn push_map(alloc: Global, out: &mut Bytes, map: &CrystalMap) -> Result<(), AllocError>
+fn push_map(out: &mut Bytes, map: &CrystalMap) -> Result<(), AllocError>
     ensures { OnOk result (out.new ≡ out.old ++ map_text (map_of map.now)) }
 {
     let w = map.w;
     let shift = map.shift;
-    push_coordinate(alloc, out, w.a11, w.a12, w.a13, shift.x)?;
+    push_coordinate(out, w.a11, w.a12, w.a13, shift.x)?;
     out.push(b',')?;
-    push_coordinate(alloc, out, w.a21, w.a22, w.a23, shift.y)?;
+    push_coordinate(out, w.a21, w.a22, w.a23, shift.y)?;
     out.push(b',')?;
-    push_coordinate(alloc, out, w.a31, w.a32, w.a33, shift.z)?;
+    push_coordinate(out, w.a31, w.a32, w.a33, shift.z)?;
     out.push(b',')?;
     push_sign(out, map.sign)?;
     out.push(b'\n')?;
@@ -60,23 +53,23 @@ fn push_map(alloc: Global, out: &mut Bytes, map: &CrystalMap) -> Result<(), Allo
 }
 
 /// Adds the lines of the maps, in order.
-fn push_maps(alloc: Global, out: &mut Bytes, maps: &MapList) -> Result<(), AllocError>
+fn push_maps(out: &mut Bytes, maps: &MapList) -> Result<(), AllocError>
     ensures { OnOk result (out.new ≡ out.old ++ maps_text maps.now) }
 {
     for i in 0..maps.count() {
-        push_map(alloc, out, maps.at(i))?;
+        push_map(out, maps.at(i))?;
     }
     Ok(())
 }
 
 /// Adds the lines of the maps, or that there are none.
-fn push_listed(alloc: Global, out: &mut Bytes, maps: &MapList) -> Result<(), AllocError>
+fn push_listed(out: &mut Bytes, maps: &MapList) -> Result<(), AllocError>
     ensures { OnOk result (out.new ≡ out.old ++ listed_text maps.now) }
 {
     if maps.count() == 0 {
         out.append(b"none\n")
     } else {
-        push_maps(alloc, out, maps)
+        push_maps(out, maps)
     }
 }
 
@@ -105,6 +98,6 @@ pub fn compare_report(
     let mut out = Bytes::new(alloc);
     push_back(alloc, &mut out, b"back1", one.back())?;
     push_back(alloc, &mut out, b"back2", other.back())?;
-    push_listed(alloc, &mut out, maps)?;
+    push_listed(&mut out, maps)?;
     Ok(out)
 }

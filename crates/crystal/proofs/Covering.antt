@@ -9,9 +9,9 @@ use Rattle.lists.specs.Increasing.{IsMember}
 use Rattle.lists.proofs.Members.{member_last, member_front}
 use Rattle.lists.proofs.Walks.{member_taken}
 use Rattle.indexmap.specs.IndexSet.{insert_key}
-use Rattle.crystal_spec.specs.Crystals.{Site}
+use Rattle.crystal_spec.specs.Crystals.{Atom}
 use Rattle.crystal.specs.declared.atom.Atom as code
-use Rattle.crystal.specs.Views.{site_of}
+use Rattle.crystal.specs.Views.{atom_of}
 use Rattle.positions.specs.Positions.{triple_of}
 use Rattle.crystal.specs.Covering.{IsListed}
 use Rattle.crystal.specs.Occupants.{NoneAt}
@@ -62,24 +62,24 @@ inserted_stays p q ks m = by (list_any (same_place p) ks) refl
 
 -- with the position of the next atom put in, one more atom is listed
 pub next_listed : (xs : List code.Atom) (i : ℕ) (x : code.Atom) (ks js : List (List ℕ)) → i < length xs → get_or xs i x ≡ x → length x.place ≡ 3 → IsMember x.place js → ((p : List ℕ) → IsMember p ks → IsMember p js) →
-    ((a : Site) → IsMember a (map site_of (take i xs)) → IsListed ks a) → (a : Site) → IsMember a (map site_of (take (i + 1) xs)) → IsListed js a
-next_listed xs i x ks js h at three listed kept before a m = by (member_taken site_of xs i x a h (sym at) m)
+    ((a : Atom) → IsMember a (map atom_of (take i xs)) → IsListed ks a) → (a : Atom) → IsMember a (map atom_of (take (i + 1) xs)) → IsListed js a
+next_listed xs i x ks js h at three listed kept before a m = by (member_taken atom_of xs i x a h (sym at) m)
   where
-    by : (a ≡ site_of x) ⊎ IsMember a (map site_of (take i xs)) → IsListed js a
+    by : (a ≡ atom_of x) ⊎ IsMember a (map atom_of (take i xs)) → IsListed js a
     by (inr old) =
         let l = before a old in
         record { place = l.place; three = l.three; is = l.is; listed = kept l.place l.listed }
-    by (inl new) = record { place = x.place; three = three; is = ap (λ (b : Site). b.position) new; listed = listed }
+    by (inl new) = record { place = x.place; three = three; is = ap (λ (b : Atom). b.position) new; listed = listed }
 
 -- at the end all are
 pub all_listed : (xs : List code.Atom) (i : ℕ) (ks : List (List ℕ)) → length xs ≤ i →
-    ((a : Site) → IsMember a (map site_of (take i xs)) → IsListed ks a) → (a : Site) → IsMember a (map site_of xs) → IsListed ks a
-all_listed xs i ks h all a m = all a (subst (λ (ys : List code.Atom). IsMember a (map site_of ys)) (sym (take_all i xs h)) m)
+    ((a : Atom) → IsMember a (map atom_of (take i xs)) → IsListed ks a) → (a : Atom) → IsMember a (map atom_of xs) → IsListed ks a
+all_listed xs i ks h all a m = all a (subst (λ (ys : List code.Atom). IsMember a (map atom_of ys)) (sym (take_all i xs h)) m)
 
 -- at a position that is not listed there is none of the atoms that are
-pub none_listed : (ks : List (List ℕ)) (p : List ℕ) (sites : List Site) → length p ≡ 3 → ((a : Site) → IsMember a sites → IsListed ks a) → (IsMember p ks → ⊥) → NoneAt (triple_of p) sites
+pub none_listed : (ks : List (List ℕ)) (p : List ℕ) (atoms : List Atom) → length p ≡ 3 → ((a : Atom) → IsMember a atoms → IsListed ks a) → (IsMember p ks → ⊥) → NoneAt (triple_of p) atoms
 none_listed ks p [] three all lacks = tt
-none_listed ks p (s ∷ sites) three all lacks = (here, none_listed ks p sites three (λ a m. all a (inr m)) lacks)
+none_listed ks p (s ∷ atoms) three all lacks = (here, none_listed ks p atoms three (λ a m. all a (inr m)) lacks)
   where
     here : s.position ≡ triple_of p → ⊥
     here e = let l = all s (inl refl) in lacks (subst (λ (q : List ℕ). IsMember q ks) (same_list l.place p l.three three (sym l.is ∙ e)) l.listed)

@@ -8,7 +8,7 @@ use Rattle.lists.specs.Increasing.{IsDistinct}
 use Rattle.crystal_spec.specs.declared.MomentKind.{MomentKind}
 use Rattle.crystal_spec.specs.Matrices.{Matrix}
 use Rattle.crystal_spec.specs.Moments.{IsOfKind}
-use Rattle.crystal_spec.specs.Crystals.{Site, Structure, IsPositive}
+use Rattle.crystal_spec.specs.Crystals.{Atom, Structure, IsPositive}
 use Rattle.crystal_spec.specs.Operations.{IsWithinCell}
 use Rattle.crystal.specs.declared.limits.TheConstants.{MOST_ATOMS, MOST_NAMES}
 use Rattle.matrix3.specs.Bounds.{EntriesAtMost, CoordinatesAtMost}
@@ -21,20 +21,20 @@ pub record IsSymmetric (g : Matrix) : Type 0 where
   pub bc : g.a32 ≡ g.a23
 
 -- an atom of one of so many species, at a position from 0 to n - 1, with a moment of this kind and of size up to 2 · 10^27
-pub record IsSiteOf (species n : ℕ) (kind : MomentKind) (site : Site) : Type 0 where
-  pub named : site.species < species
-  pub within : IsWithinCell n site.position
-  pub moment : CoordinatesAtMost (2 * 10 ^ 27) site.moment
-  pub of_kind : IsOfKind kind site.moment
+pub record IsCellAtom (species n : ℕ) (kind : MomentKind) (atom : Atom) : Type 0 where
+  pub named : atom.species < species
+  pub within : IsWithinCell n atom.position
+  pub moment : CoordinatesAtMost (2 * 10 ^ 27) atom.moment
+  pub of_kind : IsOfKind kind atom.moment
 
-abbrev pub AreSitesOf : ℕ → ℕ → MomentKind → List Site → Type 0
-AreSitesOf species n kind [] = Unit {0}
-AreSitesOf species n kind (site ∷ sites) = IsSiteOf species n kind site × AreSitesOf species n kind sites
+abbrev pub AreCellAtoms : ℕ → ℕ → MomentKind → List Atom → Type 0
+AreCellAtoms species n kind [] = Unit {0}
+AreCellAtoms species n kind (atom ∷ atoms) = IsCellAtom species n kind atom × AreCellAtoms species n kind atoms
 
 -- no two are at one position
-abbrev pub AreApart : List Site → Type 0
+abbrev pub AreApart : List Atom → Type 0
 AreApart [] = Unit {0}
-AreApart (site ∷ sites) = NoneAt site.position sites × AreApart sites
+AreApart (atom ∷ atoms) = NoneAt atom.position atoms × AreApart atoms
 
 pub record IsCellWithinLimits (c : Structure) : Type 0 where
   pub positive : IsPositive c.metric
@@ -48,8 +48,8 @@ pub record IsCellWithinLimits (c : Structure) : Type 0 where
   pub k_at_most : c.k ≤ 10 ^ 6
   pub names_differ : IsDistinct c.names
   pub few_names : length c.names ≤ MOST_NAMES
-  pub some : 1 ≤ length c.sites
-  pub few : length c.sites ≤ MOST_ATOMS
-  pub first : (site : Site) → slice_get c.sites 0 ≡ Some site → site.species ≡ 0
-  pub sites : AreSitesOf (length c.names) c.n c.kind c.sites
-  pub apart : AreApart c.sites
+  pub some : 1 ≤ length c.atoms
+  pub few : length c.atoms ≤ MOST_ATOMS
+  pub first : (atom : Atom) → slice_get c.atoms 0 ≡ Some atom → atom.species ≡ 0
+  pub atoms : AreCellAtoms (length c.names) c.n c.kind c.atoms
+  pub apart : AreApart c.atoms

@@ -4,6 +4,7 @@ pub mod Views
 pub mod Occupants
 pub mod Cells
 pub mod CellFields
-pub mod Carrying
+pub mod Images
 pub mod Actions
 pub mod Covering
+pub mod Sizes

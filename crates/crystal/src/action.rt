@@ -45,7 +45,7 @@ impl Action {
         ensures matrix { result.matrix ≡ w.now }
         ensures acts { ActsOn cell.now result }
     {
-        let _form = cell.count();
+        cell.invariant();
         let (n, kind) = (cell.n(), cell.kind());
         Action {
             kind,

@@ -1,9 +1,9 @@
 ghost use Rattle.std.specs.Prelude.{◌≡◌, ◌↔◌, ◌≤◌, ◌*◌, ◌^◌, IsTrue};
-ghost use Rattle.crystal.specs.Views.{site_of};
+ghost use Rattle.crystal.specs.Views.{atom_of};
 ghost use Rattle.positions.specs.Positions.{triple_of};
 ghost use Rattle.matrix3.specs.Bounds.{EntriesAtMost, CoordinatesAtMost};
 ghost use Rattle.crystal.specs.Covering.{Covers};
-ghost use Rattle.crystal.specs.Carrying.{HasImage, HaveImages};
+ghost use Rattle.crystal.specs.Images.{HasImage, HaveImages};
 
 use crate::action::Action;
 use crate::atom::Atom;
@@ -31,13 +31,13 @@ fn has_image(
     moments: &Mat3<Int>,
     atom: &Atom,
 ) -> bool
-    requires index { Covers cell.now.sites index.now }
+    requires index { Covers cell.now.atoms index.now }
     requires modulus { action.now.modulus ≡ cell.now.n }
     requires moments { EntriesAtMost 150000000 moments.now }
     requires moment { CoordinatesAtMost (2 * 10 ^ 27) atom.now.moment }
-    ensures { IsTrue result ↔ HasImage cell.now action.now.matrix (triple_of shift) moments.now (site_of atom.now) }
+    ensures { IsTrue result ↔ HasImage cell.now action.now.matrix (triple_of shift) moments.now (atom_of atom.now) }
 {
-    let _form = cell.count();
+    cell.invariant();
     let place = action.image(atom.place, shift);
     let moment = carried_moment(moments, &atom.moment);
     match cell.occupant(index, place) {
@@ -55,10 +55,10 @@ fn is_lost(
     moments: &Mat3<Int>,
     i: usize,
 ) -> bool
-    requires index { Covers cell.now.sites index.now }
+    requires index { Covers cell.now.atoms index.now }
     requires modulus { action.now.modulus ≡ cell.now.n }
     requires moments { EntriesAtMost 150000000 moments.now }
-    ensures { IsTrue result → HaveImages cell.now action.now.matrix (triple_of shift) moments.now cell.now.sites → ⊥ }
+    ensures { IsTrue result → HaveImages cell.now action.now.matrix (triple_of shift) moments.now cell.now.atoms → ⊥ }
 {
     i < cell.count() && !has_image(cell, index, action, shift, moments, cell.atom(i))
 }
@@ -72,10 +72,10 @@ fn fails_alike(
     moments: &Mat3<Int>,
     last: &Failure,
 ) -> bool
-    requires index { Covers cell.now.sites index.now }
+    requires index { Covers cell.now.atoms index.now }
     requires modulus { action.now.modulus ≡ cell.now.n }
     requires moments { EntriesAtMost 150000000 moments.now }
-    ensures { IsTrue result → HaveImages cell.now action.now.matrix (triple_of shift) moments.now cell.now.sites → ⊥ }
+    ensures { IsTrue result → HaveImages cell.now action.now.matrix (triple_of shift) moments.now cell.now.atoms → ⊥ }
 {
     if is_lost(cell, index, action, shift, moments, last.atom) {
         return true;
@@ -96,10 +96,10 @@ pub(crate) fn have_images(
     moments: &Mat3<Int>,
     last: &mut Failure,
 ) -> bool
-    requires index { Covers cell.now.sites index.now }
+    requires index { Covers cell.now.atoms index.now }
     requires modulus { action.now.modulus ≡ cell.now.n }
     requires moments { EntriesAtMost 150000000 moments.now }
-    ensures { IsTrue result ↔ HaveImages cell.now action.now.matrix (triple_of shift) moments.now cell.now.sites }
+    ensures { IsTrue result ↔ HaveImages cell.now action.now.matrix (triple_of shift) moments.now cell.now.atoms }
 {
     if fails_alike(cell, index, action, shift, moments, last) {
         return false;

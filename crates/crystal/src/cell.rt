@@ -4,12 +4,12 @@ ghost use Rattle.crystal_spec.specs.Moments.{IsOfKind};
 ghost use Rattle.crystal_spec.specs.Crystals.{IsPositive};
 ghost use Rattle.crystal_spec.specs.Operations.{IsWithinCell};
 ghost use Rattle.crystal_spec.specs.Cells.{IsCell};
-ghost use Rattle.crystal.specs.Views.{metric_of, site_of};
+ghost use Rattle.crystal.specs.Views.{metric_of, atom_of};
 ghost use Rattle.positions.specs.Positions.{triple_of};
 ghost use Rattle.crystal.specs.Occupants.{IsOccupant, NoneAt};
 ghost use Rattle.crystal.specs.Covering.{Covers};
 ghost use Rattle.matrix3.specs.Bounds.{EntriesAtMost, CoordinatesAtMost};
-ghost use Rattle.crystal.specs.Cells.{IsCellWithinLimits, IsSiteOf};
+ghost use Rattle.crystal.specs.Cells.{IsCellWithinLimits, IsCellAtom};
 
 use crate::atom::Atom;
 use crate::limits::{MOST_ATOMS, MOST_NAMES};
@@ -88,7 +88,7 @@ impl Cell {
         requires place { IsWithinCell n (triple_of first.place) }
         requires moment { CoordinatesAtMost (2 * 10 ^ 27) first.moment }
         requires of_kind { IsOfKind kind first.moment }
-        ensures { IfOk result (λ c. c ≡ record { names = name ∷ []; scale = scale; metric = metric_of metric; n = n; k = k; kind = kind; sites = site_of first ∷ [] }) }
+        ensures { IfOk result (λ c. c ≡ record { names = name ∷ []; scale = scale; metric = metric_of metric; n = n; k = k; kind = kind; atoms = atom_of first ∷ [] }) }
     {
         let mut names = Vec::new(alloc);
         names.push(name)?;
@@ -127,7 +127,7 @@ impl Cell {
         requires { self.old.names ≡ take 1 cell.now.names }
         ensures { OnOk result (self.new ≡ record self.old { names = cell.now.names }) }
     {
-        let _form = cell.count();
+        cell.invariant();
         for species in 1..cell.names() {
             self.add_name(cell.name(species as u16).copied())?;
         }
@@ -136,15 +136,15 @@ impl Cell {
 
     /// The number of the first atom at a position. It looks at each atom in turn.
     fn first_at(&self, place: [u32; 3]) -> Option<usize>
-        ensures found { IfSome result (IsOccupant self.now.sites (triple_of place)) }
-        ensures absent { IfNone result (NoneAt (triple_of place) self.now.sites) }
+        ensures found { IfSome result (IsOccupant self.now.atoms (triple_of place)) }
+        ensures absent { IfNone result (NoneAt (triple_of place) self.now.atoms) }
     {
         first_occupant(&self.atoms, place)
     }
 
     /// Whether no atom is at a position within the cell. It looks at each atom in turn.
     pub fn is_free(&self, place: [u32; 3]) -> bool
-        ensures { IsTrue result ↔ NoneAt (triple_of place) self.now.sites }
+        ensures { IsTrue result ↔ NoneAt (triple_of place) self.now.atoms }
     {
         match self.first_at(place) {
             Some(_) => false,
@@ -156,10 +156,10 @@ impl Cell {
     ///
     /// Refuses for want of memory alone, and then leaves the cell as it was.
     pub fn add(&mut self, atom: Atom) -> Result<(), AllocError>
-        requires site { IsSiteOf (length self.old.names) self.old.n self.old.kind (site_of atom) }
-        requires free { NoneAt (triple_of atom.place) self.old.sites }
-        requires fewer { length self.old.sites < MOST_ATOMS }
-        ensures value { OnOk result (self.new ≡ record self.old { sites = self.old.sites ++ site_of atom ∷ [] }) }
+        requires atom { IsCellAtom (length self.old.names) self.old.n self.old.kind (atom_of atom) }
+        requires free { NoneAt (triple_of atom.place) self.old.atoms }
+        requires fewer { length self.old.atoms < MOST_ATOMS }
+        ensures value { OnOk result (self.new ≡ record self.old { atoms = self.old.atoms ++ atom_of atom ∷ [] }) }
         ensures unchanged { OnErr result (self.new ≡ self.old) }
     {
         self.atoms.push(atom)?;
@@ -201,9 +201,17 @@ impl Cell {
         self.kind
     }
 
+    /// That a cell is one, within the limits. It does nothing.
+    pub fn invariant(&self)
+        ensures cell { IsCell self.now }
+        ensures form { IsCellWithinLimits self.now }
+    {
+        let _ = &self.names;
+    }
+
     /// How many atoms the cell has, 1 to `MOST_ATOMS`.
     pub fn count(&self) -> usize
-        ensures value { result ≡ length self.now.sites }
+        ensures value { result ≡ length self.now.atoms }
         ensures cell { IsCell self.now }
         ensures form { IsCellWithinLimits self.now }
     {
@@ -219,9 +227,9 @@ impl Cell {
 
     /// The atom number i, from 0.
     pub fn atom(&self, i: usize) -> &Atom
-        requires { i < length self.now.sites }
-        ensures value { slice_get self.now.sites i ≡ Some (site_of result.now) }
-        ensures form { IsSiteOf (length self.now.names) self.now.n self.now.kind (site_of result.now) }
+        requires { i < length self.now.atoms }
+        ensures value { slice_get self.now.atoms i ≡ Some (atom_of result.now) }
+        ensures form { IsCellAtom (length self.now.names) self.now.n self.now.kind (atom_of result.now) }
     {
         &self.atoms[i]
     }
@@ -236,17 +244,17 @@ impl Cell {
 
     /// The number of the atom at a position, or `None` where no atom is there.
     pub(crate) fn occupant(&self, index: &PlaceIndex, place: [u32; 3]) -> Option<usize>
-        requires { Covers self.now.sites index.now }
-        ensures found { IfSome result (IsOccupant self.now.sites (triple_of place)) }
-        ensures below { IfSome result (λ i. i < length self.now.sites) }
-        ensures absent { IfNone result (NoneAt (triple_of place) self.now.sites) }
+        requires { Covers self.now.atoms index.now }
+        ensures found { IfSome result (IsOccupant self.now.atoms (triple_of place)) }
+        ensures below { IfSome result (λ i. i < length self.now.atoms) }
+        ensures absent { IfNone result (NoneAt (triple_of place) self.now.atoms) }
     {
         find_occupant(&self.atoms, index, place)
     }
 
     /// An index of the positions of its atoms.
     pub(crate) fn index(&self, alloc: Global) -> Result<PlaceIndex, AllocError>
-        ensures { IfOk result (Covers self.now.sites) }
+        ensures { IfOk result (Covers self.now.atoms) }
     {
         PlaceIndex::new(alloc, &self.atoms)
     }

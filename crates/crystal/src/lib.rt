@@ -17,6 +17,7 @@ mod name;
 mod occupant;
 mod place_index;
 mod places;
+mod rarest;
 mod steps;
 
 pub use action::Action;

@@ -6,6 +6,13 @@ ghost use Rattle.matrix3.specs.Bounds.{EntriesAtMost};
 use exact_num::Int;
 use matrix3::{Mat3, Vec3};
 
+/// The column of these coordinates.
+fn column_of(x: Int, y: Int, z: Int) -> Vec3<Int>
+    ensures { result ≡ record { x = x; y = y; z = z } }
+{
+    Vec3 { x, y, z }
+}
+
 /// Whether the matrix is an isometry of the metric tensor: wᵀ g w = g.
 fn keeps_metric(g: &Mat3<Int>, w: &Mat3<Int>) -> bool
     requires metric { EntriesAtMost (10 ^ 16) g.now }
@@ -33,21 +40,9 @@ impl Metric {
         ensures { result ≡ metric_of self.now }
     {
         let g = *self;
-        let a = Vec3 {
-            x: g.aa,
-            y: g.ab,
-            z: g.ac,
-        };
-        let b = Vec3 {
-            x: g.ab,
-            y: g.bb,
-            z: g.bc,
-        };
-        let c = Vec3 {
-            x: g.ac,
-            y: g.bc,
-            z: g.cc,
-        };
+        let a = column_of(g.aa, g.ab, g.ac);
+        let b = column_of(g.ab, g.bb, g.bc);
+        let c = column_of(g.ac, g.bc, g.cc);
         Mat3::of_columns(&a, &b, &c)
     }
 

@@ -1,6 +1,6 @@
 ghost use Rattle.std.specs.Prelude.{◌≡◌, ℕ, List, length, map, IfOk, OnOk, IfNone};
 ghost use Rattle.lists.specs.Increasing.{IsMember};
-ghost use Rattle.crystal.specs.Views.{site_of};
+ghost use Rattle.crystal.specs.Views.{atom_of};
 ghost use Rattle.crystal.specs.Covering.{Covers, Lacks};
 
 use crate::atom::Atom;
@@ -29,7 +29,7 @@ fn add_place(places: &mut IndexSet<[u32; 3]>, place: [u32; 3]) -> Result<(), All
 impl PlaceIndex {
     /// The positions of these atoms.
     pub(crate) fn new(alloc: Global, atoms: &[Atom]) -> Result<PlaceIndex, AllocError>
-        ensures { IfOk result (Covers (map site_of atoms.now)) }
+        ensures { IfOk result (Covers (map atom_of atoms.now)) }
     {
         let mut places = IndexSet::with_capacity(alloc, atoms.len())?;
         for atom in atoms {

@@ -35,7 +35,7 @@ impl Model for Places {
 
     ghost use Rattle.crystal.specs.Covering.{Covers};
 
-    ghost invariant = { λ p. Covers p.cell.sites p.index };
+    ghost invariant = { λ p. Covers p.cell.atoms p.index };
 }
 
 impl Places {
@@ -60,8 +60,8 @@ impl Places {
         requires x { slice_index place 0 < self.now.n }
         requires y { slice_index place 1 < self.now.n }
         requires z { slice_index place 2 < self.now.n }
-        ensures found { IfSome result (IsOccupant self.now.sites (triple_of place)) }
-        ensures absent { IfNone result (NoneAt (triple_of place) self.now.sites) }
+        ensures found { IfSome result (IsOccupant self.now.atoms (triple_of place)) }
+        ensures absent { IfNone result (NoneAt (triple_of place) self.now.atoms) }
     {
         self.cell.occupant(&self.index, place)
     }
@@ -89,7 +89,7 @@ impl Places {
         requires { ActsOn self.now action.now }
         ensures exact { IsTrue result ↔ Keeps self.now action.now.matrix (triple_of shift) (sign_factor sign) }
     {
-        let _form = self.cell.count();
+        self.cell.invariant();
         have_images(
             &self.cell,
             &self.index,
@@ -118,7 +118,7 @@ impl Places {
         ensures ticks { steps.new ≡ steps.old + 1 }
     {
         steps.tick();
-        let _form = self.cell.count();
+        self.cell.invariant();
         self.cell.metric().is_kept_by(w)
             && self.are_kept_by(&self.action(w), shift, sign, &mut Failure::none())
     }

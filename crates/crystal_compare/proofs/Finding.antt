@@ -14,14 +14,12 @@ use Rattle.matrix3.specs.Matrices as formulas
 use Rattle.crystal_spec.specs.declared.Sign.{Sign}
 use Rattle.crystal_spec.specs.declared.Sign.TheVariants.{Same, Reversed}
 use Rattle.crystal_spec.specs.Matrices.{Matrix, Triple, image, multiple, sum_of, difference}
-use Rattle.crystal_spec.specs.Crystals.{Site, Structure}
+use Rattle.crystal_spec.specs.Crystals.{Atom, Structure}
 use Rattle.crystal_spec.specs.Operations.{Operation, compare_of}
 use Rattle.crystal_spec.proofs.Entrywise.{triple_same}
 use Rattle.crystal_spec.proofs.Identities.{by_integers, by_triples}
-use Rattle.crystal_spec.proofs.Images.{same_within}
 use Rattle.crystal_spec.proofs.Ordered.{compare_exact}
 use Rattle.matrix3.specs.Bounds.{EntriesAtMost, CoordinatesAtMost}
-use Rattle.positions.specs.Positions.{IsModulo}
 use Rattle.crystal.specs.Cells.{IsCellWithinLimits}
 use Rattle.lattice_iso.specs.Columns.{candidate, scalar_product}
 use Rattle.lattice_iso.proofs.Candidates.{candidate_small}
@@ -30,7 +28,7 @@ use Rattle.basis_spec.proofs.MatrixLaws.{metric_in-multiple_metric}
 use Rattle.crystal_compare.specs.Maps.{HaveOneName}
 use Rattle.positions.proofs.Residues.{modulo_once}
 use Rattle.crystal_compare.specs.Search.{steps, AreMetricsOf, IsSecondColumn, IsThirdColumn, IsFoldedOnto, IsIsometry, IsMap, IsMapAs, IsMapOnto, IsMapOntoNumber, IsMapBy, IsMapOfTwo, IsMapOfOne, IsMapOfColumns, IsSmallMap}
-use Rattle.crystal_compare.proofs.Reaching.{images_of_onto, site_image_member, equally_many}
+use Rattle.crystal_compare.proofs.Reaching.{images_of_onto, atom_image_member, equally_many}
 
 -- ---- one map
 pub map_added : (c c' : Structure) (a : Operation) (old new : List Operation) → IsMap c c' a → new ≡ inserted compare_of a old → (o : Operation) → IsMember o new ↔ (IsMapAs c c' a o ⊎ IsMember o old)
@@ -61,7 +59,7 @@ taken_off a l n =
     let y = vector_of_variables 3 in
     by_triples (coordinates a ++ coordinates l ++ n ∷ []) x (formulas.sum_of quoted (formulas.sum_of quoted x (formulas.multiple quoted (var 6) y)) (formulas.multiple quoted (var 6) (formulas.multiple quoted (con (negsuc 0)) y))) refl
 
-pub onto_both : (c c' : Structure) (w : Matrix) (t : Triple) (a b : Site) (o : Operation) (A B D : Type 0) → IsFoldedOnto c c' w a.position b.position t →
+pub onto_both : (c c' : Structure) (w : Matrix) (t : Triple) (a b : Atom) (o : Operation) (A B D : Type 0) → IsFoldedOnto c c' w a.position b.position t →
     B ↔ (IsMapAs c c' (record { matrix = w; translation = t; sign = Same }) o ⊎ D) → A ↔ (IsMapAs c c' (record { matrix = w; translation = t; sign = Reversed }) o ⊎ B) → A ↔ (IsMapOnto c c' w a b o ⊎ D)
 onto_both c c' w t a b o A B D f same reversed = ((λ x. from_reversed (reversed.0 x)), back)
   where
@@ -102,29 +100,29 @@ carried_translation x y t u n m e = triple_same (by x.x y.x t.x u.x (ap (λ (v :
         ∙ by_integers (n ∷ t ∷ m ∷ u ∷ y ∷ []) (((var 4 :+ var 1) :+ opposite (var 4)) :+ opposite (var 0 :* (var 2 :* var 3))) (var 1 :+ (var 0 :* var 2) :* (con (negsuc 0) :* var 3)) refl
 
 -- all atoms are seen: exactly the maps of this matrix
-pub by_atoms : (c c' : Structure) (w : Matrix) (a : Site) (o : Operation) (A Old : Type 0) → IsCellWithinLimits c → IsCellWithinLimits c' → IsMember a c.sites → A ↔ (AnyBelow (length c'.sites) (IsMapOntoNumber c c' w a o) ⊎ Old) → A ↔ (IsMapBy c c' w o ⊎ Old)
+pub by_atoms : (c c' : Structure) (w : Matrix) (a : Atom) (o : Operation) (A Old : Type 0) → IsCellWithinLimits c → IsCellWithinLimits c' → IsMember a c.atoms → A ↔ (AnyBelow (length c'.atoms) (IsMapOntoNumber c c' w a o) ⊎ Old) → A ↔ (IsMapBy c c' w o ⊎ Old)
 by_atoms c c' w a o A Old cell cell' of_cell found = ((λ x. forth (found.0 x)), (λ h. found.1 (back h)))
   where
-    forth : AnyBelow (length c'.sites) (IsMapOntoNumber c c' w a o) ⊎ Old → IsMapBy c c' w o ⊎ Old
+    forth : AnyBelow (length c'.atoms) (IsMapOntoNumber c c' w a o) ⊎ Old → IsMapBy c c' w o ⊎ Old
     forth (inl k) = inl (record { same_matrix = k.holds.onto.same_matrix; is_map = k.holds.onto.is_map })
     forth (inr d) = inr d
 
-    back : IsMapBy c c' w o ⊎ Old → AnyBelow (length c'.sites) (IsMapOntoNumber c c' w a o) ⊎ Old
+    back : IsMapBy c c' w o ⊎ Old → AnyBelow (length c'.atoms) (IsMapOntoNumber c c' w a o) ⊎ Old
     back (inl h) =
         let m = h.is_map in
-        let i = site_image_member c c' o.matrix o.translation _ c.sites a (images_of_onto c c' o.matrix o.translation o.sign cell cell' m.isometry.unimodular m.onto) of_cell in
-        let k = place_of_member c'.sites i.site i.of_cell in
+        let i = atom_image_member c c' o.matrix o.translation _ c.atoms a (images_of_onto c c' o.matrix o.translation o.sign cell cell' m.isometry.unimodular m.onto) of_cell in
+        let k = place_of_member c'.atoms i.atom i.of_cell in
         inl (record {
           number = k.number;
           below = k.below;
           holds = record {
-            site = i.site;
-            is_site = k.at;
+            atom = i.atom;
+            is_atom = k.at;
             one_name = i.carried.one_name;
             onto = record {
               same_matrix = h.same_matrix;
-              folded = subst (λ (v : Matrix). IsFoldedOnto c c' v a.position i.site.position o.translation) h.same_matrix
-                  (record { within = m.within; cells = multiple (negsuc 0) i.carried.cells; same = carried_translation i.site.position (multiple (pos c'.n) (image o.matrix a.position)) o.translation i.carried.cells (pos c.n) (pos c'.n) i.carried.position });
+              folded = subst (λ (v : Matrix). IsFoldedOnto c c' v a.position i.atom.position o.translation) h.same_matrix
+                  (record { within = m.within; cells = multiple (negsuc 0) i.carried.cells; same = carried_translation i.atom.position (multiple (pos c'.n) (image o.matrix a.position)) o.translation i.carried.cells (pos c.n) (pos c'.n) i.carried.position });
               is_map = m;
             };
           };
@@ -211,23 +209,23 @@ by_columns_all c c' o A found = ((λ x. forth (found.0 x)), (λ h. found.1 (back
 pub no_map_of_kinds : (c c' : Structure) (o : Operation) → (c.kind ≡ c'.kind → ⊥) → IsMember o [] ↔ IsSmallMap c c' o
 no_map_of_kinds c c' o other = ((λ m. absurd m), (λ h. absurd (other (sym h.is_map.same_kind))))
 
-pub no_map_of_counts : (c c' : Structure) (o : Operation) → IsCellWithinLimits c → IsCellWithinLimits c' → (length c.sites ≡ length c'.sites → ⊥) → IsMember o [] ↔ IsSmallMap c c' o
+pub no_map_of_counts : (c c' : Structure) (o : Operation) → IsCellWithinLimits c → IsCellWithinLimits c' → (length c.atoms ≡ length c'.atoms → ⊥) → IsMember o [] ↔ IsSmallMap c c' o
 no_map_of_counts c c' o cell cell' other = ((λ m. absurd m), (λ h. absurd (other (equally_many c c' o.matrix o.translation o.sign cell cell' h.is_map.isometry.unimodular h.is_map.onto))))
 
 -- the next atom of the name, and one of another name
-pub onto_number : (c c' : Structure) (w : Matrix) (a b : Site) (o : Operation) (j : ℕ) (A D : Type 0) → slice_get c'.sites j ≡ Some b → HaveOneName c c' a.species b.species → A ↔ (IsMapOnto c c' w a b o ⊎ D) → A ↔ (IsMapOntoNumber c c' w a o j ⊎ D)
+pub onto_number : (c c' : Structure) (w : Matrix) (a b : Atom) (o : Operation) (j : ℕ) (A D : Type 0) → slice_get c'.atoms j ≡ Some b → HaveOneName c c' a.species b.species → A ↔ (IsMapOnto c c' w a b o ⊎ D) → A ↔ (IsMapOntoNumber c c' w a o j ⊎ D)
 onto_number c c' w a b o j A D at name h = ((λ x. forth (h.0 x)), (λ x. h.1 (back x)))
   where
     forth : IsMapOnto c c' w a b o ⊎ D → IsMapOntoNumber c c' w a o j ⊎ D
-    forth (inl k) = inl (record { site = b; is_site = at; one_name = name; onto = k })
+    forth (inl k) = inl (record { atom = b; is_atom = at; one_name = name; onto = k })
     forth (inr d) = inr d
 
     back : IsMapOntoNumber c c' w a o j ⊎ D → IsMapOnto c c' w a b o ⊎ D
-    back (inl k) = inl (subst (λ (x : Site). IsMapOnto c c' w a x o) (same_at c'.sites j k.site b k.is_site at) k.onto)
+    back (inl k) = inl (subst (λ (x : Atom). IsMapOnto c c' w a x o) (same_at c'.atoms j k.atom b k.is_atom at) k.onto)
     back (inr d) = inr d
 
-pub not_onto_number : (c c' : Structure) (w : Matrix) (a b : Site) (o : Operation) (j : ℕ) → slice_get c'.sites j ≡ Some b → (HaveOneName c c' a.species b.species → ⊥) → IsMapOntoNumber c c' w a o j → ⊥
-not_onto_number c c' w a b o j at other k = other (subst (λ (x : Site). HaveOneName c c' a.species x.species) (same_at c'.sites j k.site b k.is_site at) k.one_name)
+pub not_onto_number : (c c' : Structure) (w : Matrix) (a b : Atom) (o : Operation) (j : ℕ) → slice_get c'.atoms j ≡ Some b → (HaveOneName c c' a.species b.species → ⊥) → IsMapOntoNumber c c' w a o j → ⊥
+not_onto_number c c' w a b o j at other k = other (subst (λ (x : Atom). HaveOneName c c' a.species x.species) (same_at c'.atoms j k.atom b k.is_atom at) k.one_name)
 
 -- the maps of the next matrix, and none where it is no isometry
 pub by_matrix : (c c' : Structure) (w v : Matrix) (o : Operation) (A D : Type 0) → w ≡ v → A ↔ (IsMapBy c c' w o ⊎ D) → A ↔ (IsMapBy c c' v o ⊎ D)

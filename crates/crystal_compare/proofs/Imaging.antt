@@ -10,7 +10,7 @@ use Rattle.crystal_spec.specs.declared.MomentKind.{MomentKind}
 use Rattle.crystal_spec.specs.declared.Sign.{Sign}
 use Rattle.crystal_spec.specs.Matrices.{Triple, Matrix, image, determinant, multiple, sum_of}
 use Rattle.crystal_spec.specs.Moments.{axial_factor, turn_matrix, moment_matrix}
-use Rattle.crystal_spec.specs.Crystals.{Site, Structure}
+use Rattle.crystal_spec.specs.Crystals.{Atom, Structure}
 use Rattle.crystal_spec.specs.Operations.{sign_factor}
 use Rattle.crystal_spec.proofs.Entrywise.{triple_same}
 use Rattle.crystal_spec.proofs.Identities.{by_integers}
@@ -27,7 +27,7 @@ use Rattle.crystal.proofs.Ranges.{turn_entries, unit_entries}
 use Rattle.matrix3.proofs.FitsBySize.{image_size, coordinates_grown}
 use Rattle.prim_cell.proofs.Moving.{some_cells}
 use Rattle.crystal_compare.specs.Maps.{HaveOneName}
-use Rattle.crystal_compare.specs.Search.{IsCarriedCoordinate, IsCarriedPlace, IsBetweenPlaces, HasImageAt, HaveOneMoment, HasSiteImage}
+use Rattle.crystal_compare.specs.Search.{IsCarriedCoordinate, IsCarriedPlace, IsBetweenPlaces, HasImageAt, HaveOneMoment, HasAtomImage}
 
 -- a multiple on the other side
 taken_over : (n : ℕ) (r z q : ℤ) → r ≡ z +ℤ q *ℤ pos n → z ≡ r +ℤ pos n *ℤ neg_ℤ q
@@ -65,45 +65,45 @@ pub place_image : (w : Matrix) (p : Triple) → EntriesAtMost 1 w → Coordinate
 place_image w p h k = coordinates_grown {v = image w p} (lit≤ tt) (image_size w p h k)
 
 -- where an atom is at the position, that atom decides
-pub image_at : {T : Type 0} (c c' : Structure) (l : Matrix) (a : Site) (q : Triple) (i : ℕ) (b : Site) → IsCellWithinLimits c' → IsOccupant c'.sites q i → slice_get c'.sites i ≡ Some b → T ↔ (HaveOneName c c' a.species b.species × HaveOneMoment c c' l a b) → T ↔ HasImageAt c c' l a q
+pub image_at : {T : Type 0} (c c' : Structure) (l : Matrix) (a : Atom) (q : Triple) (i : ℕ) (b : Atom) → IsCellWithinLimits c' → IsOccupant c'.atoms q i → slice_get c'.atoms i ≡ Some b → T ↔ (HaveOneName c c' a.species b.species × HaveOneMoment c c' l a b) → T ↔ HasImageAt c c' l a q
 image_at {T} c c' l a q i b cell o e test = (forth, back)
   where
     here : b.position ≡ q
-    here = ap (λ (x : Site). x.position) (same_at c'.sites i b o.site e o.numbered) ∙ o.here
+    here = ap (λ (x : Atom). x.position) (same_at c'.atoms i b o.atom e o.numbered) ∙ o.here
 
     forth : T → HasImageAt c c' l a q
-    forth t = record { site = b; of_cell = member_at c'.sites i b e; here = here; one_name = (test.0 t).0; one_moment = (test.0 t).1 }
+    forth t = record { atom = b; of_cell = member_at c'.atoms i b e; here = here; one_name = (test.0 t).0; one_moment = (test.0 t).1 }
 
     back : HasImageAt c c' l a q → T
     back k =
-        let one : k.site ≡ b = (apart_cell c' cell).told k.site b k.of_cell (member_at c'.sites i b e) (k.here ∙ sym here) in
-        test.1 (subst (λ (x : Site). HaveOneName c c' a.species x.species) one k.one_name, subst (λ (x : Site). HaveOneMoment c c' l a x) one k.one_moment)
+        let one : k.atom ≡ b = (apart_cell c' cell).told k.atom b k.of_cell (member_at c'.atoms i b e) (k.here ∙ sym here) in
+        test.1 (subst (λ (x : Atom). HaveOneName c c' a.species x.species) one k.one_name, subst (λ (x : Atom). HaveOneMoment c c' l a x) one k.one_moment)
 
-pub no_image_at : (c c' : Structure) (l : Matrix) (a : Site) (q : Triple) → NoneAt q c'.sites → HasImageAt c c' l a q → ⊥
-no_image_at c c' l a q none k = none_member q c'.sites k.site none k.of_cell k.here
+pub no_image_at : (c c' : Structure) (l : Matrix) (a : Atom) (q : Triple) → NoneAt q c'.atoms → HasImageAt c c' l a q → ⊥
+no_image_at c c' l a q none k = none_member q c'.atoms k.atom none k.of_cell k.here
 
 -- the atom that is at the place of the image decides
-pub image_exactly : {T : Type 0} (c c' : Structure) (w : Matrix) (t : Triple) (l : Matrix) (a : Site) (q : Triple) → IsCellWithinLimits c → IsCellWithinLimits c' → IsCarriedPlace c.n c'.n w t a.position q → T ↔ HasImageAt c c' l a q → T ↔ HasSiteImage c c' w t l a
+pub image_exactly : {T : Type 0} (c c' : Structure) (w : Matrix) (t : Triple) (l : Matrix) (a : Atom) (q : Triple) → IsCellWithinLimits c → IsCellWithinLimits c' → IsCarriedPlace c.n c'.n w t a.position q → T ↔ HasImageAt c c' l a q → T ↔ HasAtomImage c c' w t l a
 image_exactly {T} c c' w t l a q cell cell' k test = ((λ h. forth (test.0 h)), (λ h. test.1 (back h)))
   where
-    forth : HasImageAt c c' l a q → HasSiteImage c c' w t l a
-    forth h = record { site = h.site; of_cell = h.of_cell; carried = record { one_name = h.one_name; cells = k.cells; position = ap (λ (v : Triple). multiple (pos c.n) (sum_of v (multiple (pos c'.n) k.cells))) h.here ∙ k.position; moment = h.one_moment } }
+    forth : HasImageAt c c' l a q → HasAtomImage c c' w t l a
+    forth h = record { atom = h.atom; of_cell = h.of_cell; carried = record { one_name = h.one_name; cells = k.cells; position = ap (λ (v : Triple). multiple (pos c.n) (sum_of v (multiple (pos c'.n) k.cells))) h.here ∙ k.position; moment = h.one_moment } }
 
-    back : HasSiteImage c c' w t l a → HasImageAt c c' l a q
+    back : HasAtomImage c c' w t l a → HasImageAt c c' l a q
     back h =
         let r = h.carried in
-        let b = h.site in
+        let b = h.atom in
         let e = multiple_cancel (pos c.n) (sum_of b.position (multiple (pos c'.n) r.cells)) (sum_of q (multiple (pos c'.n) k.cells)) (some_cells c cell) (r.position ∙ sym k.position) in
         let v = sum_of k.cells (multiple (negsuc 0) r.cells) in
         let x = multiple (pos c'.n) r.cells in
         let is : b.position ≡ sum_of q (multiple (pos c'.n) v) =
         sum_cancel b.position (sum_of q (multiple (pos c'.n) v)) x
         (e ∙ ap (sum_of q) (ap (multiple (pos c'.n)) (sym (subtract_add k.cells r.cells)) ∙ multiple-sum_of (pos c'.n) v r.cells) ∙ sym (sum_assoc q (multiple (pos c'.n) v) x)) in
-        record { site = b; of_cell = h.of_cell; here = same_within c'.n b.position q v ((apart_cell c' cell').within b h.of_cell) k.within is; one_name = r.one_name; one_moment = r.moment }
+        record { atom = b; of_cell = h.of_cell; here = same_within c'.n b.position q v ((apart_cell c' cell').within b h.of_cell) k.within is; one_name = r.one_name; one_moment = r.moment }
 
 -- where the image is no position in units of 1/n', no atom is there
-pub no_image : (c c' : Structure) (w : Matrix) (t : Triple) (l : Matrix) (a : Site) → IsBetweenPlaces c.n c'.n w t a.position → HasSiteImage c c' w t l a → ⊥
-no_image c c' w t l a none h = none (sum_of h.site.position (multiple (pos c'.n) h.carried.cells)) h.carried.position
+pub no_image : (c c' : Structure) (w : Matrix) (t : Triple) (l : Matrix) (a : Atom) → IsBetweenPlaces c.n c'.n w t a.position → HasAtomImage c c' w t l a → ⊥
+no_image c c' w t l a none h = none (sum_of h.atom.position (multiple (pos c'.n) h.carried.cells)) h.carried.position
 
 -- the matrix that acts on moments has small entries too
 pub moment_matrix_small : (kind : MomentKind) (w : Matrix) (s : Sign) → EntriesAtMost 1 w → determinant w *ℤ determinant w ≡ pos 1 → EntriesAtMost 1 (moment_matrix kind w (sign_factor s))

@@ -28,7 +28,7 @@ cube = record {
   n = 1;
   k = 1;
   kind = axial_vectors;
-  sites = record { species = 0; position = at; moment = at } ∷ [];
+  atoms = record { species = 0; position = at; moment = at } ∷ [];
 }
 
 -- the same in units of 1/4

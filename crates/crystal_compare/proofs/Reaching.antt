@@ -11,7 +11,7 @@ use Rattle.lists.proofs.Counting.{covered, into_le}
 use Rattle.crystal_spec.specs.declared.Sign.{Sign}
 use Rattle.crystal_spec.specs.Matrices.{Triple, Matrix, image, determinant, adjugate, multiple, sum_of}
 use Rattle.crystal_spec.specs.Moments.{moment_matrix}
-use Rattle.crystal_spec.specs.Crystals.{Site, Structure, Occupied}
+use Rattle.crystal_spec.specs.Crystals.{Atom, Structure, Occupied}
 use Rattle.crystal_spec.specs.Operations.{sign_factor}
 use Rattle.crystal_spec.proofs.Images.{same_within, occupied_itself}
 use Rattle.basis_spec.proofs.MatrixLaws.{image-multiple, image-sum_of, image-matrix_multiple, image-image_adjugate, multiple_swap, multiple-sum_of, sum_assoc, sum_swap, subtract_add, add_difference}
@@ -20,17 +20,17 @@ use Rattle.crystal.specs.Cells.{IsCellWithinLimits}
 use Rattle.crystal.proofs.CellLemmas.{apart_cell}
 use Rattle.prim_cell.proofs.Moving.{some_cells}
 use Rattle.crystal_compare.specs.Maps.{HaveOneName}
-use Rattle.crystal_compare.specs.Search.{IsMovedTo, HasMovedTo, IsMovedFrom, MapsOnto, moments_of, IsSiteCarried, HasSiteImage, HaveSiteImages}
+use Rattle.crystal_compare.specs.Search.{IsMovedTo, HasMovedTo, IsMovedFrom, MapsOnto, moments_of, IsAtomCarried, HasAtomImage, HaveAtomImages}
 use Rattle.crystal_compare.proofs.WholeBetween.{image_told}
 
-pub site_image_member : (c c' : Structure) (w : Matrix) (t : Triple) (l : Matrix) (xs : List Site) (a : Site) → HaveSiteImages c c' w t l xs → IsMember a xs → HasSiteImage c c' w t l a
-site_image_member c c' w t l [] a h m = absurd m
-site_image_member c c' w t l (x ∷ xs) a h (inl e) = subst (HasSiteImage c c' w t l) (sym e) h.0
-site_image_member c c' w t l (x ∷ xs) a h (inr m) = site_image_member c c' w t l xs a h.1 m
+pub atom_image_member : (c c' : Structure) (w : Matrix) (t : Triple) (l : Matrix) (xs : List Atom) (a : Atom) → HaveAtomImages c c' w t l xs → IsMember a xs → HasAtomImage c c' w t l a
+atom_image_member c c' w t l [] a h m = absurd m
+atom_image_member c c' w t l (x ∷ xs) a h (inl e) = subst (HasAtomImage c c' w t l) (sym e) h.0
+atom_image_member c c' w t l (x ∷ xs) a h (inr m) = atom_image_member c c' w t l xs a h.1 m
 
-pub all_site_images : (c c' : Structure) (w : Matrix) (t : Triple) (l : Matrix) (xs : List Site) → ((a : Site) → IsMember a xs → HasSiteImage c c' w t l a) → HaveSiteImages c c' w t l xs
-all_site_images c c' w t l [] h = tt
-all_site_images c c' w t l (x ∷ xs) h = (h x (inl refl), all_site_images c c' w t l xs (λ a m. h a (inr m)))
+pub all_atom_images : (c c' : Structure) (w : Matrix) (t : Triple) (l : Matrix) (xs : List Atom) → ((a : Atom) → IsMember a xs → HasAtomImage c c' w t l a) → HaveAtomImages c c' w t l xs
+all_atom_images c c' w t l [] h = tt
+all_atom_images c c' w t l (x ∷ xs) h = (h x (inl refl), all_atom_images c c' w t l xs (λ a m. h a (inr m)))
 
 module _ (c c' : Structure) (w : Matrix) (t : Triple) (sign : Sign) (cell : IsCellWithinLimits c) (cell' : IsCellWithinLimits c') (one : determinant w *ℤ determinant w ≡ pos 1) where
   abbrev l : Matrix
@@ -80,14 +80,14 @@ module _ (c c' : Structure) (w : Matrix) (t : Triple) (sign : Sign) (cell : IsCe
       image_told w p (sum_of p' (multiple (pos c.n) v)) turns (multiple_cancel (pos c'.n) (image w p) (image w (sum_of p' (multiple (pos c.n) v))) n'_above (sum_cancel (multiple (pos c'.n) (image w p)) (multiple (pos c'.n) (image w (sum_of p' (multiple (pos c.n) v)))) t (sym on)))
 
   -- two atoms of c that go to one atom of c' are one
-  one_left : (a a' b : Site) → IsMember a c.sites → IsMember a' c.sites → IsSiteCarried c c' w t l a b → IsSiteCarried c c' w t l a' b → a ≡ a'
+  one_left : (a a' b : Atom) → IsMember a c.atoms → IsMember a' c.atoms → IsAtomCarried c c' w t l a b → IsAtomCarried c c' w t l a' b → a ≡ a'
   one_left a a' b h h' r r' =
       let apart = apart_cell c cell in
       let v = multiple (determinant w) (image (adjugate w) (sum_of r.cells (multiple (negsuc 0) r'.cells))) in
       apart.told a a' h h' (same_within c.n a.position a'.position v (apart.within a h) (apart.within a' h') (cells_back a.position a'.position b.position r.cells r'.cells r.position r'.position))
 
   -- two atoms of c' to which one atom of c goes are one
-  one_right : (b b' a : Site) → IsMember b c'.sites → IsMember b' c'.sites → IsSiteCarried c c' w t l a b → IsSiteCarried c c' w t l a b' → b ≡ b'
+  one_right : (b b' a : Atom) → IsMember b c'.atoms → IsMember b' c'.atoms → IsAtomCarried c c' w t l a b → IsAtomCarried c c' w t l a b' → b ≡ b'
   one_right b b' a h h' r r' =
       let apart = apart_cell c' cell' in
       let x = multiple (pos c'.n) r.cells in
@@ -99,14 +99,14 @@ module _ (c c' : Structure) (w : Matrix) (t : Triple) (sign : Sign) (cell : IsCe
       apart.told b b' h h' (same_within c'.n b.position b'.position v (apart.within b h) (apart.within b' h') is)
 
   -- an image of an atom of the cell is one of all atoms that are whole cells away
-  image_of : (a b : Site) (s : ℕ) (p m u : Triple) → IsMember b c'.sites → IsSiteCarried c c' w t l a b → a.species ≡ s → a.moment ≡ m → p ≡ sum_of a.position (multiple (pos c.n) u) → HasMovedTo c c' w t (pos c.n) (pos c.k) (moments_of c c' w sign) s p m
+  image_of : (a b : Atom) (s : ℕ) (p m u : Triple) → IsMember b c'.atoms → IsAtomCarried c c' w t l a b → a.species ≡ s → a.moment ≡ m → p ≡ sum_of a.position (multiple (pos c.n) u) → HasMovedTo c c' w t (pos c.n) (pos c.k) (moments_of c c' w sign) s p m
   image_of a b s p m u h r es em ep =
       let v = sum_of r.cells (image w u) in
       record {
         species = b.species;
         position = sum_of b.position (multiple (pos c'.n) v);
         moment = b.moment;
-        occupied = record { site = b; of_cell = h; same_species = refl; same_moment = refl; cells = v; same_position = refl };
+        occupied = record { atom = b; of_cell = h; same_species = refl; same_moment = refl; cells = v; same_position = refl };
         moved = record {
           one_name = subst (λ (x : ℕ). HaveOneName c c' x b.species) es r.one_name;
           position = ap (multiple (pos c.n)) (ap (sum_of b.position) (multiple-sum_of (pos c'.n) r.cells (image w u)) ∙ sym (sum_assoc b.position (multiple (pos c'.n) r.cells) (multiple (pos c'.n) (image w u))))
@@ -118,7 +118,7 @@ module _ (c c' : Structure) (w : Matrix) (t : Triple) (sign : Sign) (cell : IsCe
       }
 
   -- and each atom whole cells away from it is one
-  source_of : (a b : Site) (r : ℕ) (q h u : Triple) → IsMember a c.sites → IsSiteCarried c c' w t l a b → b.species ≡ r → b.moment ≡ h → q ≡ sum_of b.position (multiple (pos c'.n) u) → IsMovedFrom c c' w t (pos c.n) (pos c.k) (moments_of c c' w sign) r q h
+  source_of : (a b : Atom) (r : ℕ) (q h u : Triple) → IsMember a c.atoms → IsAtomCarried c c' w t l a b → b.species ≡ r → b.moment ≡ h → q ≡ sum_of b.position (multiple (pos c'.n) u) → IsMovedFrom c c' w t (pos c.n) (pos c.k) (moments_of c c' w sign) r q h
   source_of a b r q h u is_member k er eh eq =
       let x = sum_of u (multiple (negsuc 0) k.cells) in
       let v = multiple (determinant w) (image (adjugate w) x) in
@@ -126,7 +126,7 @@ module _ (c c' : Structure) (w : Matrix) (t : Triple) (sign : Sign) (cell : IsCe
         species = a.species;
         position = sum_of a.position (multiple (pos c.n) v);
         moment = a.moment;
-        occupied = record { site = a; of_cell = is_member; same_species = refl; same_moment = refl; cells = v; same_position = refl };
+        occupied = record { atom = a; of_cell = is_member; same_species = refl; same_moment = refl; cells = v; same_position = refl };
         moved = record {
           one_name = subst (λ (y : ℕ). HaveOneName c c' a.species y) er k.one_name;
           position = ap (multiple (pos c.n)) (eq ∙ ap (sum_of b.position) (ap (multiple (pos c'.n)) (sym (add_difference u k.cells)) ∙ multiple-sum_of (pos c'.n) k.cells x) ∙ sym (sum_assoc b.position (multiple (pos c'.n) k.cells) (multiple (pos c'.n) x)))
@@ -138,24 +138,24 @@ module _ (c c' : Structure) (w : Matrix) (t : Triple) (sign : Sign) (cell : IsCe
       }
 
   -- equally many atoms, each with an image: so the crystals are carried onto each other
-  pub onto_by_images : length c.sites ≡ length c'.sites → HaveSiteImages c c' w t l c.sites → MapsOnto c c' w t sign
+  pub onto_by_images : length c.atoms ≡ length c'.atoms → HaveAtomImages c c' w t l c.atoms → MapsOnto c c' w t sign
   onto_by_images equally images = record { images = forth; onto = back }
     where
-      carried : (a : Site) → IsMember a c.sites → (b : Site) × (IsMember b c'.sites × IsSiteCarried c c' w t l a b)
-      carried a h = let i = site_image_member c c' w t l c.sites a images h in (i.site, (i.of_cell, i.carried))
+      carried : (a : Atom) → IsMember a c.atoms → (b : Atom) × (IsMember b c'.atoms × IsAtomCarried c c' w t l a b)
+      carried a h = let i = atom_image_member c c' w t l c.atoms a images h in (i.atom, (i.of_cell, i.carried))
 
       forth : (s : ℕ) (p m : Triple) → Occupied c s p m → HasMovedTo c c' w t (pos c.n) (pos c.k) (moments_of c c' w sign) s p m
-      forth s p m o = let i = carried o.site o.of_cell in image_of o.site i.0 s p m o.cells i.1.0 i.1.1 o.same_species o.same_moment o.same_position
+      forth s p m o = let i = carried o.atom o.of_cell in image_of o.atom i.0 s p m o.cells i.1.0 i.1.1 o.same_species o.same_moment o.same_position
 
       back : (r : ℕ) (q h : Triple) → Occupied c' r q h → IsMovedFrom c c' w t (pos c.n) (pos c.k) (moments_of c c' w sign) r q h
       back r q h o =
-          let x = covered (IsSiteCarried c c' w t l) c.sites c'.sites (apart_cell c cell).distinct (omega (arith, equally)) (record { right = carried; one_left = one_left }) o.site o.of_cell in
-          source_of x.0 o.site r q h o.cells x.1.0 x.1.1 o.same_species o.same_moment o.same_position
+          let x = covered (IsAtomCarried c c' w t l) c.atoms c'.atoms (apart_cell c cell).distinct (omega (arith, equally)) (record { right = carried; one_left = one_left }) o.atom o.of_cell in
+          source_of x.0 o.atom r q h o.cells x.1.0 x.1.1 o.same_species o.same_moment o.same_position
 
   module _ (moves : MapsOnto c c' w t sign) where
     -- from the image of an atom of the cell
-    carried_of : (a : Site) (s : ℕ) (p m : Triple) (v : Triple) → a.species ≡ s → a.moment ≡ m → p ≡ a.position → (b : Site) (r : ℕ) (q h : Triple) → b.species ≡ r → b.moment ≡ h → q ≡ sum_of b.position (multiple (pos c'.n) v) →
-        IsMovedTo c c' w t (pos c.n) (pos c.k) (moments_of c c' w sign) s p m r q h → IsSiteCarried c c' w t l a b
+    carried_of : (a : Atom) (s : ℕ) (p m : Triple) (v : Triple) → a.species ≡ s → a.moment ≡ m → p ≡ a.position → (b : Atom) (r : ℕ) (q h : Triple) → b.species ≡ r → b.moment ≡ h → q ≡ sum_of b.position (multiple (pos c'.n) v) →
+        IsMovedTo c c' w t (pos c.n) (pos c.k) (moments_of c c' w sign) s p m r q h → IsAtomCarried c c' w t l a b
     carried_of a s p m v es em ep b r q h er eh eq i = record {
       one_name = subst (λ (x : ℕ). HaveOneName c c' x b.species) (sym es) (subst (λ (y : ℕ). HaveOneName c c' s y) (sym er) i.one_name);
       cells = v;
@@ -164,27 +164,27 @@ module _ (c c' : Structure) (w : Matrix) (t : Triple) (sign : Sign) (cell : IsCe
     }
 
     -- each atom of the cell has an image
-    has_image : (a : Site) → IsMember a c.sites → HasSiteImage c c' w t l a
+    has_image : (a : Atom) → IsMember a c.atoms → HasAtomImage c c' w t l a
     has_image a h =
         let i = moves.images a.species a.position a.moment (occupied_itself c a h) in
         let o = i.occupied in
-        record { site = o.site; of_cell = o.of_cell; carried = carried_of a a.species a.position a.moment o.cells refl refl refl o.site i.species i.position i.moment o.same_species o.same_moment o.same_position i.moved }
+        record { atom = o.atom; of_cell = o.of_cell; carried = carried_of a a.species a.position a.moment o.cells refl refl refl o.atom i.species i.position i.moment o.same_species o.same_moment o.same_position i.moved }
 
-    pub images_of_onto : HaveSiteImages c c' w t l c.sites
-    images_of_onto = all_site_images c c' w t l c.sites has_image
+    pub images_of_onto : HaveAtomImages c c' w t l c.atoms
+    images_of_onto = all_atom_images c c' w t l c.atoms has_image
 
     -- each atom of the second cell comes from an atom of the first
-    comes_from : (b : Site) → IsMember b c'.sites → (a : Site) × (IsMember a c.sites × IsSiteCarried c c' w t l a b)
+    comes_from : (b : Atom) → IsMember b c'.atoms → (a : Atom) × (IsMember a c.atoms × IsAtomCarried c c' w t l a b)
     comes_from b h =
         let f = moves.onto b.species b.position b.moment (occupied_itself c' b h) in
         let o = f.occupied in
         let at = occupied_itself c' b h in
-        let near : sum_of (multiple (pos c'.n) (image w o.site.position)) t ≡ multiple (pos c.n) (sum_of b.position (multiple (pos c'.n) (multiple (negsuc 0) (image w o.cells)))) =
-        sum_cancel (sum_of (multiple (pos c'.n) (image w o.site.position)) t) (multiple (pos c.n) (sum_of b.position (multiple (pos c'.n) (multiple (negsuc 0) (image w o.cells))))) (multiple (pos c.n) (multiple (pos c'.n) (image w o.cells)))
-        (sym (cells_on o.site.position o.cells) ∙ ap (λ x. sum_of (multiple (pos c'.n) (image w x)) t) (sym o.same_position) ∙ sym f.moved.position
+        let near : sum_of (multiple (pos c'.n) (image w o.atom.position)) t ≡ multiple (pos c.n) (sum_of b.position (multiple (pos c'.n) (multiple (negsuc 0) (image w o.cells)))) =
+        sum_cancel (sum_of (multiple (pos c'.n) (image w o.atom.position)) t) (multiple (pos c.n) (sum_of b.position (multiple (pos c'.n) (multiple (negsuc 0) (image w o.cells))))) (multiple (pos c.n) (multiple (pos c'.n) (image w o.cells)))
+        (sym (cells_on o.atom.position o.cells) ∙ ap (λ x. sum_of (multiple (pos c'.n) (image w x)) t) (sym o.same_position) ∙ sym f.moved.position
         ∙ ap (multiple (pos c.n)) (sym (subtract_add b.position (multiple (pos c'.n) (image w o.cells))) ∙ ap (λ x. sum_of (sum_of b.position x) (multiple (pos c'.n) (image w o.cells))) (multiple_swap (negsuc 0) (pos c'.n) (image w o.cells)))
         ∙ multiple-sum_of (pos c.n) (sum_of b.position (multiple (pos c'.n) (multiple (negsuc 0) (image w o.cells)))) (multiple (pos c'.n) (image w o.cells))) in (
-          o.site,
+          o.atom,
           (
             o.of_cell,
             record {
@@ -196,12 +196,12 @@ module _ (c c' : Structure) (w : Matrix) (t : Triple) (sign : Sign) (cell : IsCe
           ),
         )
 
-    pub equally_many : length c.sites ≡ length c'.sites
+    pub equally_many : length c.atoms ≡ length c'.atoms
     equally_many =
-        let up = into_le (IsSiteCarried c c' w t l) c.sites c'.sites (apart_cell c cell).distinct (record { right = λ a h. (let i = has_image a h in (i.site, (i.of_cell, i.carried))); one_left = one_left }) in
-        let down = into_le (λ (b a : Site). IsSiteCarried c c' w t l a b) c'.sites c.sites (apart_cell c' cell').distinct (record { right = comes_from; one_left = one_right }) in
+        let up = into_le (IsAtomCarried c c' w t l) c.atoms c'.atoms (apart_cell c cell).distinct (record { right = λ a h. (let i = has_image a h in (i.atom, (i.of_cell, i.carried))); one_left = one_left }) in
+        let down = into_le (λ (b a : Atom). IsAtomCarried c c' w t l a b) c'.atoms c.atoms (apart_cell c' cell').distinct (record { right = comes_from; one_left = one_right }) in
         omega (arith, up, down)
 
   -- the test decides
-  pub onto_exactly : {T : Type 0} → T ↔ ((length c.sites ≡ length c'.sites) × HaveSiteImages c c' w t l c.sites) → T ↔ MapsOnto c c' w t sign
+  pub onto_exactly : {T : Type 0} → T ↔ ((length c.atoms ≡ length c'.atoms) × HaveAtomImages c c' w t l c.atoms) → T ↔ MapsOnto c c' w t sign
   onto_exactly test = ((λ h. let k = test.0 h in onto_by_images k.0 k.1), (λ m. test.1 (equally_many m, images_of_onto m)))

@@ -148,7 +148,7 @@ module _ (c : Structure) (limits : IsCellWithinLimits c) (e : ℤ) (e_above : po
 
   own_name : (s : ℕ) (p m : Triple) → Occupied c s p m → HaveOneName c c s s
   own_name s p m o =
-      let k = at_place c.names s (subst (λ (x : ℕ). x < length c.names) o.same_species (cell.named o.site o.of_cell)) in
+      let k = at_place c.names s (subst (λ (x : ℕ). x < length c.names) o.same_species (cell.named o.atom o.of_cell)) in
       record { name = k.0; first = k.1; second = k.1 }
 
   -- y and v, in units of 1/n, in units of 1/(n e)

@@ -3,16 +3,13 @@
 -- A metric tensor up to 10^16 becomes one up to 9 · 10^16 in the other basis and 9 · 10^32 in its units; a moment up to
 -- 2 · 10^27 has an image up to 6 · 10^27, and 6 · 10^33 in units of 1/(k k'). In common units a metric tensor has entries up
 -- to 10^32, and scalar products of small columns up to 9 · 10^32.
-use Rattle.std.proofs.Common.{◌≡◌, ℕ, ◌+◌, ◌*◌, ◌^◌, ◌≤◌, sym, subst, lit≤, ℤ, pos, ◌≤ℤ◌, ◌<ℤ◌, arith, mul-le-mul}
+use Rattle.std.proofs.Common.{ℕ, ◌*◌, ◌^◌, ◌≤◌, lit≤, ℤ, pos, ◌≤ℤ◌, ◌<ℤ◌, arith, mul-le-mul}
 use Rattle.std.proofs.lemmas.Int.{ints}
 use Rattle.crystal_spec.specs.Operations.{IsWithinCell}
-use Rattle.ring.specs.Ring.{int_ops}
 use Rattle.ring.specs.Size.{AtMost}
-use Rattle.ring.proofs.Sizes.{at_most_mul, at_most_add, weaken}
-use Rattle.matrix3.specs.Fits.{DotFits, ImageFits}
 use Rattle.crystal_spec.specs.Matrices.{Matrix, Triple, image}
 use Rattle.matrix3.specs.Bounds.{EntriesAtMost, CoordinatesAtMost}
-use Rattle.matrix3.proofs.FitsBySize.{grown, image_size, coordinates_grown, image_fits}
+use Rattle.matrix3.proofs.FitsBySize.{image_size, coordinates_grown}
 
 -- the image of a moment
 pub moment_image : (l : Matrix) (m : Triple) → EntriesAtMost 1 l → CoordinatesAtMost (2 * 10 ^ 27) m → CoordinatesAtMost (10 ^ 28) (image l m)

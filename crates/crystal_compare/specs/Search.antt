@@ -7,7 +7,7 @@
 --   HaveOneMoment c c' l a b    the moment of b is the image of that of a
 --   IsCarriedPlace, IsBetweenPlaces  the image of a position is this one within the cell; it is none in units of 1/n'
 --   IsFolded, IsCarriedCoordinate    so it is for one coordinate; HasImageAt: an atom at this position is the image of a
---   IsSiteCarried, HasSiteImage, HaveSiteImages    what is tested of atoms of the cells
+--   IsAtomCarried, HasAtomImage, HaveAtomImages    what is tested of atoms of the cells
 --   IsIsometry c c' w           w is unimodular and takes the lengths of c to those of c'
 --   IsMap c c' o                o maps c onto c', by its matrix, its translation part in steps and its sign
 --   IsFoldedOnto c c' w a b t   t is the translation part, within one cell, with which w carries a position onto another
@@ -24,7 +24,7 @@ use Rattle.lists.specs.Any.{AnyBelow}
 use Rattle.crystal_spec.specs.declared.Sign.{Sign}
 use Rattle.crystal_spec.specs.Matrices.{Triple, Matrix, image, determinant, multiple, sum_of, difference}
 use Rattle.crystal_spec.specs.Moments.{moment_matrix}
-use Rattle.crystal_spec.specs.Crystals.{Site, Structure, Occupied}
+use Rattle.crystal_spec.specs.Crystals.{Atom, Structure, Occupied}
 use Rattle.crystal_spec.specs.Operations.{Operation, sign_factor, IsWithinCell}
 use Rattle.basis_spec.specs.Metrics.{matrix_multiple}
 use Rattle.matrix3.specs.Bounds.{EntriesAtMost}
@@ -66,7 +66,7 @@ abbrev pub MapsOnto : Structure → Structure → Matrix → Triple → Sign →
 MapsOnto c c' w t sign = Moves c c' w t (pos c.n) (pos c.k) (moments_of c c' w sign)
 
 -- k times the moment of b is k' times the image of that of a
-abbrev pub HaveOneMoment : Structure → Structure → Matrix → Site → Site → Type 0
+abbrev pub HaveOneMoment : Structure → Structure → Matrix → Atom → Atom → Type 0
 HaveOneMoment c c' l a b = multiple (pos c.k) b.moment ≡ multiple (pos c'.k) (image l a.moment)
 
 -- n (q + n' cells) = n' W p + t, with q within the cell
@@ -89,32 +89,32 @@ pub record IsCarriedCoordinate (n m : ℕ) (x t : ℤ) (r : ℕ) : Type 0 where
   pub same : pos n *ℤ (pos r +ℤ pos m *ℤ cells) ≡ pos m *ℤ x +ℤ t
 
 -- an atom of the second cell at this position is the image of the atom a
-pub record HasImageAt (c c' : Structure) (l : Matrix) (a : Site) (q : Triple) : Type 0 where
-  pub site : Site
-  pub of_cell : IsMember site c'.sites
-  pub here : site.position ≡ q
-  pub one_name : HaveOneName c c' a.species site.species
-  pub one_moment : HaveOneMoment c c' l a site
+pub record HasImageAt (c c' : Structure) (l : Matrix) (a : Atom) (q : Triple) : Type 0 where
+  pub atom : Atom
+  pub of_cell : IsMember atom c'.atoms
+  pub here : atom.position ≡ q
+  pub one_name : HaveOneName c c' a.species atom.species
+  pub one_moment : HaveOneMoment c c' l a atom
 
 -- no position in units of 1/n' is the image
 abbrev pub IsBetweenPlaces : ℕ → ℕ → Matrix → Triple → Triple → Type 0
 IsBetweenPlaces n n' w t p = (q : Triple) → multiple (pos n) q ≡ sum_of (multiple (pos n') (image w p)) t → ⊥
 
 -- the atom a goes to the atom b, but for whole cells, by a map that acts on moments by l
-pub record IsSiteCarried (c c' : Structure) (w : Matrix) (t : Triple) (l : Matrix) (a b : Site) : Type 0 where
+pub record IsAtomCarried (c c' : Structure) (w : Matrix) (t : Triple) (l : Matrix) (a b : Atom) : Type 0 where
   pub one_name : HaveOneName c c' a.species b.species
   pub cells : Triple
   pub position : multiple (pos c.n) (sum_of b.position (multiple (pos c'.n) cells)) ≡ sum_of (multiple (pos c'.n) (image w a.position)) t
   pub moment : HaveOneMoment c c' l a b
 
-pub record HasSiteImage (c c' : Structure) (w : Matrix) (t : Triple) (l : Matrix) (a : Site) : Type 0 where
-  pub site : Site
-  pub of_cell : IsMember site c'.sites
-  pub carried : IsSiteCarried c c' w t l a site
+pub record HasAtomImage (c c' : Structure) (w : Matrix) (t : Triple) (l : Matrix) (a : Atom) : Type 0 where
+  pub atom : Atom
+  pub of_cell : IsMember atom c'.atoms
+  pub carried : IsAtomCarried c c' w t l a atom
 
-abbrev pub HaveSiteImages : Structure → Structure → Matrix → Triple → Matrix → List Site → Type 0
-HaveSiteImages c c' w t l [] = Unit {0}
-HaveSiteImages c c' w t l (a ∷ sites) = HasSiteImage c c' w t l a × HaveSiteImages c c' w t l sites
+abbrev pub HaveAtomImages : Structure → Structure → Matrix → Triple → Matrix → List Atom → Type 0
+HaveAtomImages c c' w t l [] = Unit {0}
+HaveAtomImages c c' w t l (a ∷ atoms) = HasAtomImage c c' w t l a × HaveAtomImages c c' w t l atoms
 
 pub record IsIsometry (c c' : Structure) (w : Matrix) : Type 0 where
   pub unimodular : determinant w *ℤ determinant w ≡ pos 1
@@ -130,17 +130,17 @@ pub record IsMap (c c' : Structure) (o : Operation) : Type 0 where
 abbrev pub IsFoldedOnto : Structure → Structure → Matrix → Triple → Triple → Triple → Type 0
 IsFoldedOnto c c' w p q t = IsModulo (steps c c') (difference (multiple (pos c.n) q) (multiple (pos c'.n) (image w p))) t
 
-pub record IsMapOnto (c c' : Structure) (w : Matrix) (a b : Site) (o : Operation) : Type 0 where
+pub record IsMapOnto (c c' : Structure) (w : Matrix) (a b : Atom) (o : Operation) : Type 0 where
   pub same_matrix : o.matrix ≡ w
   pub folded : IsFoldedOnto c c' w a.position b.position o.translation
   pub is_map : IsMap c c' o
 
 -- onto the atom number j of the second cell
-pub record IsMapOntoNumber (c c' : Structure) (w : Matrix) (a : Site) (o : Operation) (j : ℕ) : Type 0 where
-  pub site : Site
-  pub is_site : slice_get c'.sites j ≡ Some site
-  pub one_name : HaveOneName c c' a.species site.species
-  pub onto : IsMapOnto c c' w a site o
+pub record IsMapOntoNumber (c c' : Structure) (w : Matrix) (a : Atom) (o : Operation) (j : ℕ) : Type 0 where
+  pub atom : Atom
+  pub is_atom : slice_get c'.atoms j ≡ Some atom
+  pub one_name : HaveOneName c c' a.species atom.species
+  pub onto : IsMapOnto c c' w a atom o
 
 -- o is this operation, and a map
 pub record IsMapAs (c c' : Structure) (a o : Operation) : Type 0 where

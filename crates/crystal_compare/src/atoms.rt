@@ -3,7 +3,7 @@
 ghost use Rattle.std.specs.Prelude.{◌≡◌, ◌↔◌, ◌<◌, ◌≤◌, ◌*◌, ◌^◌, length, pos, IsTrue};
 ghost use Rattle.ring.specs.Size.{AtMost};
 ghost use Rattle.crystal_spec.specs.Matrices.{image, multiple};
-ghost use Rattle.crystal.specs.Views.{site_of};
+ghost use Rattle.crystal.specs.Views.{atom_of};
 ghost use Rattle.positions.specs.Positions.{triple_of};
 ghost use Rattle.matrix3.specs.Bounds.{EntriesAtMost, CoordinatesAtMost};
 ghost use Rattle.crystal_compare.specs.Maps.{HaveOneName};
@@ -56,9 +56,9 @@ pub(crate) fn have_one_moment(
     requires moments { EntriesAtMost 1 moments.now }
     requires first { CoordinatesAtMost (2 * 10 ^ 27) atom.now.moment }
     requires second { CoordinatesAtMost (2 * 10 ^ 27) onto.now.moment }
-    ensures { IsTrue result ↔ HaveOneMoment one.now other.now moments.now (site_of atom.now) (site_of onto.now) }
+    ensures { IsTrue result ↔ HaveOneMoment one.now other.now moments.now (atom_of atom.now) (atom_of onto.now) }
 {
-    let _one = one.count();
-    let _other = other.count();
+    one.invariant();
+    other.invariant();
     multiple(one.k(), &onto.moment) == multiple(other.k(), &moments.apply(&atom.moment))
 }

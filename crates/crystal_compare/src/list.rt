@@ -78,8 +78,8 @@ fn step_count(one: &Cell, other: &Cell) -> Int
     ensures value { result ≡ pos (steps one.now other.now) }
     ensures small { result ≤ℤ pos (10 ^ 12) }
 {
-    let _one = one.count();
-    let _other = other.count();
+    one.invariant();
+    other.invariant();
     Int::from(one.n()) * Int::from(other.n())
 }
 
@@ -134,12 +134,12 @@ pub fn all_maps(alloc: Global, one: &Primitive, other: &Primitive) -> Result<Map
     ensures nothing_missed { IfOk result (λ list. (b : Matrix) (f : Column Fraction) (d : ℕ) (sign : TimeSign) → TakesAny one.now.cell other.now.cell b f d sign → IsListedIn list b f d sign) }
     ensures groups { IfOk result (λ list. (a : AffineMap) → IsMember a list → HaveGroupsAlike one.now.cell other.now.cell list) }
 {
-    let _one = one.index();
-    let _other = other.index();
+    one.invariant();
+    other.invariant();
     let first = one.cell();
     let second = other.cell();
-    let _first = first.count();
-    let _second = second.count();
+    first.invariant();
+    second.invariant();
     let places = Places::new(alloc, second)?;
     let found = all_small(alloc, first, &places)?;
     let _found = found.count();

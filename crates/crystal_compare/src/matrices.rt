@@ -58,8 +58,8 @@ fn metric_in(w: &Mat3<Int>, g: &Mat3<Int>) -> Mat3<Int>
 pub(crate) fn metrics_of(one: &Cell, other: &Cell) -> Metrics
     ensures { AreMetricsOf one.now other.now result.one result.other }
 {
-    let _one = one.count();
-    let _other = other.count();
+    one.invariant();
+    other.invariant();
     Metrics {
         one: multiple(other.scale(), &one.metric().matrix()),
         other: multiple(one.scale(), &other.metric().matrix()),
@@ -71,8 +71,8 @@ fn carries_metric(one: &Cell, other: &Cell, w: &Mat3<Int>) -> bool
     requires { EntriesAtMost 1 w.now }
     ensures { IsTrue result ↔ CarriesMetric one.now other.now w.now }
 {
-    let _one = one.count();
-    let _other = other.count();
+    one.invariant();
+    other.invariant();
     let turned = metric_in(w, &other.metric().matrix());
     multiple(one.scale(), &turned) == multiple(other.scale(), &one.metric().matrix())
 }

@@ -5,7 +5,7 @@ ghost use Rattle.ring.specs.Size.{AtMost};
 ghost use Rattle.lists.specs.Increasing.{IsMember};
 ghost use Rattle.crystal_spec.specs.Matrices.{determinant, difference, image, multiple};
 ghost use Rattle.crystal_spec.specs.Operations.{Operation, IsWithinCell};
-ghost use Rattle.crystal.specs.Views.{site_of};
+ghost use Rattle.crystal.specs.Views.{atom_of};
 ghost use Rattle.positions.specs.Positions.{triple_of, IsModulo};
 ghost use Rattle.matrix3.specs.Bounds.{EntriesAtMost, CoordinatesAtMost};
 ghost use Rattle.matrix3.specs.Matrices.{of_columns};
@@ -66,7 +66,7 @@ fn add_map(
     requires isometry { IsIsometry one.now other.now map.now.w }
     requires kind { other.now.kind ≡ one.now.kind }
     requires within { IsWithinCell (steps one.now other.now) map.now.shift }
-    requires of_cell { IsMember (site_of from.now) one.now.sites }
+    requires of_cell { IsMember (atom_of from.now) one.now.atoms }
     ensures members { OnOk result ((o : Operation) → IsMember o found.new ↔ (IsMapAs one.now other.now (operation_of map.now) o ⊎ IsMember o found.old)) }
 {
     if is_onto(one, other, map, from) {
@@ -98,11 +98,11 @@ fn add_onto(
     requires small { EntriesAtMost 1 w.now }
     requires isometry { IsIsometry one.now other.now w.now }
     requires kind { other.now.kind ≡ one.now.kind }
-    requires of_cell { IsMember (site_of from.now) one.now.sites }
-    ensures members { OnOk result ((o : Operation) → IsMember o found.new ↔ (IsMapOnto one.now other.now w.now (site_of from.now) (site_of onto.now) o ⊎ IsMember o found.old)) }
+    requires of_cell { IsMember (atom_of from.now) one.now.atoms }
+    ensures members { OnOk result ((o : Operation) → IsMember o found.new ↔ (IsMapOnto one.now other.now w.now (atom_of from.now) (atom_of onto.now) o ⊎ IsMember o found.old)) }
 {
-    let _one = one.count();
-    let _other = other.cell().count();
+    one.invariant();
+    other.cell().invariant();
     let shift = translation_onto(w, from.place, onto.place, one.n(), other.cell().n());
     let same = map_of(w, &shift, Sign::Same);
     add_map(one, other, &same, from, found)?;
@@ -123,10 +123,10 @@ fn add_by(
     requires small { EntriesAtMost 1 w.now }
     requires isometry { IsIsometry one.now other.now w.now }
     requires kind { other.now.kind ≡ one.now.kind }
-    requires of_cell { IsMember (site_of from.now) one.now.sites }
+    requires of_cell { IsMember (atom_of from.now) one.now.atoms }
     ensures members { OnOk result ((o : Operation) → IsMember o found.new ↔ (IsMapBy one.now other.now w.now o ⊎ IsMember o found.old)) }
 {
-    let _one = one.count();
+    one.invariant();
     let cell = other.cell();
     for i in 0..cell.count() {
         let onto = cell.atom(i);
@@ -150,7 +150,7 @@ fn count_of(cell: &Cell, atom: &Atom) -> usize {
 
 /// The number of the first atom of a rarest species and moment.
 fn rarest(cell: &Cell) -> usize
-    ensures { result < length cell.now.sites }
+    ensures { result < length cell.now.atoms }
 {
     let atoms = cell.count();
     let mut least = count_of(cell, cell.atom(0));
@@ -176,7 +176,7 @@ fn add_of_columns(
     found: &mut WholeMaps,
 ) -> Result<(), AllocError>
     requires kind { other.now.kind ≡ one.now.kind }
-    requires of_cell { IsMember (site_of from.now) one.now.sites }
+    requires of_cell { IsMember (atom_of from.now) one.now.atoms }
     requires a { CoordinatesAtMost 1 a.now }
     requires b { CoordinatesAtMost 1 b.now }
     requires c { CoordinatesAtMost 1 c.now }
@@ -200,7 +200,7 @@ fn add_of_two(
     found: &mut WholeMaps,
 ) -> Result<(), AllocError>
     requires kind { other.now.kind ≡ one.now.kind }
-    requires of_cell { IsMember (site_of from.now) one.now.sites }
+    requires of_cell { IsMember (atom_of from.now) one.now.atoms }
     requires metrics { AreMetricsOf one.now other.now metrics.now.one metrics.now.other }
     requires a { CoordinatesAtMost 1 a.now }
     requires b { CoordinatesAtMost 1 b.now }
@@ -225,7 +225,7 @@ fn add_of_one(
     found: &mut WholeMaps,
 ) -> Result<(), AllocError>
     requires kind { other.now.kind ≡ one.now.kind }
-    requires of_cell { IsMember (site_of from.now) one.now.sites }
+    requires of_cell { IsMember (atom_of from.now) one.now.atoms }
     requires metrics { AreMetricsOf one.now other.now metrics.now.one metrics.now.other }
     requires a { CoordinatesAtMost 1 a.now }
     ensures members { OnOk result ((o : Operation) → IsMember o found.new ↔ (IsMapOfOne one.now other.now a.now o ⊎ IsMember o found.old)) }
@@ -266,8 +266,8 @@ pub(crate) fn all_small(alloc: Global, one: &Cell, other: &Places) -> Result<Who
     ensures { IfOk result (λ list. (o : Operation) → IsMember o list ↔ IsSmallMap one.now other.now o) }
 {
     let cell = other.cell();
-    let _one = one.count();
-    let _other = cell.count();
+    one.invariant();
+    cell.invariant();
     if one.kind() != cell.kind() || one.count() != cell.count() {
         return Ok(WholeMaps::new(alloc));
     }

@@ -10,7 +10,7 @@ use Rattle.lists.proofs.Counting.{covered}
 use Rattle.matrix3.specs.Matrices.{coordinates, vector_of_variables}
 use Rattle.matrix3.specs.Matrices as formulas
 use Rattle.crystal_spec.specs.Matrices.{Matrix, Triple, determinant, adjugate, image, multiple, sum_of, difference}
-use Rattle.crystal_spec.specs.Crystals.{Site, Structure, IsPositive, Occupied, KeepsMetric, Keeps, position_after, moment_after}
+use Rattle.crystal_spec.specs.Crystals.{Atom, Structure, IsPositive, Occupied, KeepsMetric, Keeps, position_after, moment_after}
 use Rattle.crystal_spec.specs.Operations.{IsWithinCell}
 use Rattle.crystal_spec.specs.Cells.{HasOneAtomEach}
 use Rattle.crystal_spec.proofs.Entrywise.{triple_same}
@@ -20,9 +20,9 @@ use Rattle.crystal_spec.proofs.Keeping.{HasImages, HasPreimages, same_cells, kee
 
 -- the atoms are within one cell, and no two are at one position
 pub record IsApart (c : Structure) : Type 0 where
-  pub within : (a : Site) → IsMember a c.sites → IsWithinCell c.n a.position
-  pub told : (a b : Site) → IsMember a c.sites → IsMember b c.sites → a.position ≡ b.position → a ≡ b
-  pub distinct : IsDistinct c.sites
+  pub within : (a : Atom) → IsMember a c.atoms → IsWithinCell c.n a.position
+  pub told : (a b : Atom) → IsMember a c.atoms → IsMember b c.atoms → a.position ≡ b.position → a ≡ b
+  pub distinct : IsDistinct c.atoms
 
 -- two numbers from 0 to n - 1 that differ by a multiple of n are one
 same_remainder : (n : ℕ) (p q k : ℤ) → pos 0 ≤ℤ p → p <ℤ pos n → pos 0 ≤ℤ q → q <ℤ pos n → p ≡ q +ℤ pos n *ℤ k → p ≡ q
@@ -52,9 +52,9 @@ taken_off a n l =
     by_triples (coordinates a ++ coordinates l ++ n ∷ []) x (formulas.sum_of quoted (formulas.sum_of quoted x (formulas.multiple quoted (var 6) y)) (formulas.multiple quoted (var 6) (formulas.multiple quoted (con (negsuc 0)) y))) refl
 
 -- where a position within the cell is occupied, but for whole cells, the atom of the cell is at that very position
-pub occupant_within : (c : Structure) → IsApart c → (s : ℕ) (p q m k : Triple) → IsWithinCell c.n q → p ≡ sum_of q (multiple (pos c.n) k) → (o : Occupied c s p m) → o.site.position ≡ q
+pub occupant_within : (c : Structure) → IsApart c → (s : ℕ) (p q m k : Triple) → IsWithinCell c.n q → p ≡ sum_of q (multiple (pos c.n) k) → (o : Occupied c s p m) → o.atom.position ≡ q
 occupant_within c apart s p q m k h e o =
-    same_within c.n o.site.position q (difference k o.cells) (apart.within o.site o.of_cell) h (moved o.site.position q k o.cells (pos c.n) (sym o.same_position ∙ e))
+    same_within c.n o.atom.position q (difference k o.cells) (apart.within o.atom o.of_cell) h (moved o.atom.position q k o.cells (pos c.n) (sym o.same_position ∙ e))
   where
     moved : (a b k l : Triple) (n : ℤ) → sum_of a (multiple n l) ≡ sum_of b (multiple n k) → a ≡ sum_of b (multiple n (difference k l))
     moved a b k l n e =
@@ -67,7 +67,7 @@ occupant_within c apart s p q m k h e o =
         (formulas.sum_of quoted x (formulas.multiple quoted (var 9) (formulas.difference quoted y u))) refl
 
 -- one atom is carried to another, but for whole cells
-pub record CarriesSite (c : Structure) (w : Matrix) (t : Triple) (sign : ℤ) (a b : Site) : Type 0 where
+pub record CarriesAtom (c : Structure) (w : Matrix) (t : Triple) (sign : ℤ) (a b : Atom) : Type 0 where
   pub same_species : b.species ≡ a.species
   pub same_moment : b.moment ≡ moment_after c.kind w sign a.moment
   pub cells : Triple
@@ -79,16 +79,16 @@ no_cells p n =
     by_triples (coordinates p ++ n ∷ []) u (formulas.sum_of quoted u (formulas.multiple quoted (var 3) (formulas.multiple quoted (con (pos 0)) u))) refl
 
 -- an atom is at its own position
-pub occupied_itself : (c : Structure) (a : Site) → IsMember a c.sites → Occupied c a.species a.position a.moment
-occupied_itself c a h = record { site = a; of_cell = h; same_species = refl; same_moment = refl; cells = multiple (pos 0) a.position; same_position = no_cells a.position (pos c.n) }
+pub occupied_itself : (c : Structure) (a : Atom) → IsMember a c.atoms → Occupied c a.species a.position a.moment
+occupied_itself c a h = record { atom = a; of_cell = h; same_species = refl; same_moment = refl; cells = multiple (pos 0) a.position; same_position = no_cells a.position (pos c.n) }
 
 pub keeps_by_images : (c : Structure) (w : Matrix) (t : Triple) (sign : ℤ) → IsApart c → IsPositive c.metric → sign *ℤ sign ≡ pos 1 → KeepsMetric c.metric w → HasImages c w t sign → Keeps c w t sign
 keeps_by_images c w t sign apart p s k images = keeps_both_ways c w t sign p s k images preimages
   where
-    carried : (a : Site) → IsMember a c.sites → (b : Site) × (IsMember b c.sites × CarriesSite c w t sign a b)
-    carried a h = let i = images a h in (i.site, (i.of_cell, record { same_species = i.same_species; same_moment = i.same_moment; cells = i.cells; onto = i.same_position }))
+    carried : (a : Atom) → IsMember a c.atoms → (b : Atom) × (IsMember b c.atoms × CarriesAtom c w t sign a b)
+    carried a h = let i = images a h in (i.atom, (i.of_cell, record { same_species = i.same_species; same_moment = i.same_moment; cells = i.cells; onto = i.same_position }))
 
-    one : (a a' b : Site) → IsMember a c.sites → IsMember a' c.sites → CarriesSite c w t sign a b → CarriesSite c w t sign a' b → a ≡ a'
+    one : (a a' b : Atom) → IsMember a c.atoms → IsMember a' c.atoms → CarriesAtom c w t sign a b → CarriesAtom c w t sign a' b → a ≡ a'
     one a a' b h h' r r' =
         let d = multiple (determinant w) (image (adjugate w) (difference r.cells r'.cells)) in
         apart.told a a' h h' (same_within c.n a.position a'.position d (apart.within a h) (apart.within a' h')
@@ -96,7 +96,7 @@ keeps_by_images c w t sign apart p s k images = keeps_both_ways c w t sign p s k
 
     preimages : HasPreimages c w t sign
     preimages b h =
-        let x = covered (CarriesSite c w t sign) c.sites c.sites apart.distinct (omega arith) (record { right = carried; one_left = one }) b h in
+        let x = covered (CarriesAtom c w t sign) c.atoms c.atoms apart.distinct (omega arith) (record { right = carried; one_left = one }) b h in
         let r = x.1.1 in
         record {
           position = x.0.position;

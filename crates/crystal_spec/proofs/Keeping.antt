@@ -8,7 +8,7 @@ use Rattle.lists.specs.Increasing.{IsMember}
 use Rattle.matrix3.specs.Matrices.{entries, coordinates, matrix_of_variables, vector_of_variables}
 use Rattle.matrix3.specs.Matrices as formulas
 use Rattle.crystal_spec.specs.Matrices.{Matrix, Triple, determinant, adjugate, image, multiple, sum_of, difference}
-use Rattle.crystal_spec.specs.Crystals.{Site, Structure, IsPositive, Occupied, KeepsMetric, Keeps, position_after, moment_after}
+use Rattle.crystal_spec.specs.Crystals.{Atom, Structure, IsPositive, Occupied, KeepsMetric, Keeps, position_after, moment_after}
 use Rattle.crystal_spec.proofs.Entrywise.{triple_same}
 use Rattle.crystal_spec.proofs.Identities.{by_integers, by_triples}
 use Rattle.crystal_spec.proofs.Isometries.{determinant-isometry, cancel_image}
@@ -16,10 +16,10 @@ use Rattle.crystal_spec.proofs.Moments.{cancel_moment}
 
 -- each atom is carried to an occupied position
 abbrev pub HasImages : Structure → Matrix → Triple → ℤ → Type 0
-HasImages c w t sign = (a : Site) → IsMember a c.sites → Occupied c a.species (position_after w t a.position) (moment_after c.kind w sign a.moment)
+HasImages c w t sign = (a : Atom) → IsMember a c.atoms → Occupied c a.species (position_after w t a.position) (moment_after c.kind w sign a.moment)
 
 -- where an atom comes from
-pub record ComesFrom (c : Structure) (w : Matrix) (t : Triple) (sign : ℤ) (a : Site) : Type 0 where
+pub record ComesFrom (c : Structure) (w : Matrix) (t : Triple) (sign : ℤ) (a : Atom) : Type 0 where
   pub position : Triple
   pub moment : Triple
   pub cells : Triple
@@ -28,7 +28,7 @@ pub record ComesFrom (c : Structure) (w : Matrix) (t : Triple) (sign : ℤ) (a :
   pub as_moment : moment_after c.kind w sign moment ≡ a.moment
 
 abbrev pub HasPreimages : Structure → Matrix → Triple → ℤ → Type 0
-HasPreimages c w t sign = (a : Site) → IsMember a c.sites → ComesFrom c w t sign a
+HasPreimages c w t sign = (a : Atom) → IsMember a c.atoms → ComesFrom c w t sign a
 
 -- whole cells are carried to whole cells
 pub carried_cells : (w : Matrix) (t a d : Triple) (n : ℤ) → position_after w t (sum_of a (multiple n d)) ≡ sum_of (position_after w t a) (multiple n (image w d))
@@ -86,29 +86,29 @@ keeps_both_ways c w t sign p s k images preimages = record { metric = k; crystal
   where
     forth : (species : ℕ) (position moment : Triple) → Occupied c species position moment → Occupied c species (position_after w t position) (moment_after c.kind w sign moment)
     forth species position moment o =
-        let i = images o.site o.of_cell in
+        let i = images o.atom o.of_cell in
         record {
-          site = i.site;
+          atom = i.atom;
           of_cell = i.of_cell;
           same_species = i.same_species ∙ o.same_species;
           same_moment = i.same_moment ∙ ap (moment_after c.kind w sign) o.same_moment;
           cells = sum_of i.cells (image w o.cells);
-          same_position = ap (position_after w t) o.same_position ∙ carried_cells w t o.site.position o.cells (pos c.n) ∙ ap (λ (v : Triple). sum_of v (multiple (pos c.n) (image w o.cells))) i.same_position ∙ two_cells i.site.position i.cells (image w o.cells) (pos c.n);
+          same_position = ap (position_after w t) o.same_position ∙ carried_cells w t o.atom.position o.cells (pos c.n) ∙ ap (λ (v : Triple). sum_of v (multiple (pos c.n) (image w o.cells))) i.same_position ∙ two_cells i.atom.position i.cells (image w o.cells) (pos c.n);
         }
 
     back : (species : ℕ) (position moment : Triple) → Occupied c species (position_after w t position) (moment_after c.kind w sign moment) → Occupied c species position moment
     back species position moment o =
-        let f = preimages o.site o.of_cell in
+        let f = preimages o.atom o.of_cell in
         let q = f.occupied in
         let one = determinant-isometry c.metric w p k in
         let r = multiple (determinant w) (image (adjugate w) (difference o.cells f.cells)) in
-        let is = same_cells w t position f.position o.site.position o.cells f.cells (pos c.n) one o.same_position f.onto in
+        let is = same_cells w t position f.position o.atom.position o.cells f.cells (pos c.n) one o.same_position f.onto in
         let m = cancel_moment c.kind w sign f.moment moment s one (f.as_moment ∙ o.same_moment) in
         record {
-          site = q.site;
+          atom = q.atom;
           of_cell = q.of_cell;
           same_species = q.same_species ∙ o.same_species;
           same_moment = q.same_moment ∙ m;
           cells = sum_of q.cells r;
-          same_position = is ∙ ap (λ (v : Triple). sum_of v (multiple (pos c.n) r)) q.same_position ∙ two_cells q.site.position q.cells r (pos c.n);
+          same_position = is ∙ ap (λ (v : Triple). sum_of v (multiple (pos c.n) r)) q.same_position ∙ two_cells q.atom.position q.cells r (pos c.n);
         }

@@ -75,14 +75,14 @@ doubled = record {
   n = 2;
   k = 1;
   kind = axial_vectors;
-  sites = record { species = 0; position = at (pos 0) (pos 0) (pos 1); moment = at (pos 0) (pos 0) (negsuc 0) } ∷ [];
+  atoms = record { species = 0; position = at (pos 0) (pos 0) (pos 1); moment = at (pos 0) (pos 0) (negsuc 0) } ∷ [];
 }
 
 -- two cells along a and one back along c
 occupied_two_cells_on : Occupied doubled 0 (at (pos 4) (pos 0) (negsuc 0)) (at (pos 0) (pos 0) (negsuc 0))
 unfolding doubled
 occupied_two_cells_on = record {
-  site = record { species = 0; position = at (pos 0) (pos 0) (pos 1); moment = at (pos 0) (pos 0) (negsuc 0) };
+  atom = record { species = 0; position = at (pos 0) (pos 0) (pos 1); moment = at (pos 0) (pos 0) (negsuc 0) };
   of_cell = inl refl;
   same_species = refl;
   same_moment = refl;

@@ -7,3 +7,4 @@ pub mod Keeping
 pub mod Images
 pub mod Ordered
 mod KnownValues
+pub mod Species

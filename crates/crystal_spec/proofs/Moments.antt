@@ -168,7 +168,7 @@ moment_matrix-product kind v w t s =
     factors = factors_regrouped t (axial_factor kind (determinant v)) s (axial_factor kind (determinant w))
         ∙ ap (λ (x : ℤ). (t *ℤ s) *ℤ x) (sym (axial_factor-product kind (determinant v) (determinant w)) ∙ ap (axial_factor kind) (sym (determinant-product v w)))
 
--- where V R = R W, the map of V does in the other basis what that of W does here
+-- where V Q = Q W, the map of V does in the other basis what that of W does here
 pub moment_matrix-turned : (kind : MomentKind) (v w r : Matrix) (sign : ℤ) → product v r ≡ product r w → determinant v ≡ determinant w →
     product (moment_matrix kind v sign) (turn_matrix kind r) ≡ product (turn_matrix kind r) (moment_matrix kind w sign)
 unfolding moment_matrix

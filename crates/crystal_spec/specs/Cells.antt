@@ -6,7 +6,7 @@
 use Rattle.std.specs.Prelude.{◌≡◌, ℕ, pos, ◌<ℤ◌, ◌<◌, length}
 use Rattle.lists.specs.Increasing.{IsMember}
 use Rattle.crystal_spec.specs.Matrices.{Triple, transposed, multiple, sum_of}
-use Rattle.crystal_spec.specs.Crystals.{Site, Structure, IsPositive}
+use Rattle.crystal_spec.specs.Crystals.{Atom, Structure, IsPositive}
 use Rattle.crystal_spec.specs.Operations.{IsWithinCell}
 
 -- p is q and so many whole cells
@@ -16,7 +16,7 @@ pub record DiffersByCells (n : ℕ) (p q : Triple) : Type 0 where
 
 -- no two atoms are at one position, whatever their species
 abbrev pub HasOneAtomEach : Structure → Type 0
-HasOneAtomEach c = (a b : Site) → IsMember a c.sites → IsMember b c.sites → DiffersByCells c.n a.position b.position → a ≡ b
+HasOneAtomEach c = (a b : Atom) → IsMember a c.atoms → IsMember b c.atoms → DiffersByCells c.n a.position b.position → a ≡ b
 
 -- what every cell has: a symmetric, positive metric tensor, and at least one atom, each of a named species and within the
 -- cell, no two at one position
@@ -24,8 +24,8 @@ pub record IsCell (c : Structure) : Type 0 where
   pub symmetric : transposed c.metric ≡ c.metric
   pub positive : IsPositive c.metric
   pub some_cells : pos 0 <ℤ pos c.n
-  pub first : Site
-  pub of_cell : IsMember first c.sites
-  pub named : (a : Site) → IsMember a c.sites → a.species < length c.names
-  pub within : (a : Site) → IsMember a c.sites → IsWithinCell c.n a.position
+  pub first : Atom
+  pub of_cell : IsMember first c.atoms
+  pub named : (a : Atom) → IsMember a c.atoms → a.species < length c.names
+  pub within : (a : Atom) → IsMember a c.atoms → IsWithinCell c.n a.position
   pub one_atom_each : HasOneAtomEach c

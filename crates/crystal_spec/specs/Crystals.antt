@@ -1,5 +1,5 @@
 -- A magnetic crystal: the infinite periodic set of atoms that a cell stands for, and the maps that keep it.
---   Site                  an atom of a cell: its species, position and moment
+--   Atom                  an atom of a cell: its species, position and moment
 --   Structure             a cell: names of species, metric tensor, units, kind of moments and atoms
 --   IsPositive g          the three leading minors of g are positive, as those of a metric tensor are
 --   Occupied c s p m      the infinite crystal has an atom of species s with moment m at position p
@@ -14,7 +14,7 @@ use Rattle.crystal_spec.specs.Matrices.{Triple, Matrix, product, image, transpos
 use Rattle.crystal_spec.specs.Moments.{moment_matrix}
 
 -- an atom of a cell: its species, its position in units of 1/n, its moment in units of 1/k, both along the axes
-pub record Site : Type 0 where
+pub record Atom : Type 0 where
   pub species : ℕ
   pub position : Triple
   pub moment : Triple
@@ -27,7 +27,7 @@ pub record Structure : Type 0 where
   pub n : ℕ
   pub k : ℕ
   pub kind : MomentKind
-  pub sites : List Site
+  pub atoms : List Atom
 
 -- the three leading minors are positive
 pub record IsPositive (g : Matrix) : Type 0 where
@@ -38,12 +38,12 @@ pub record IsPositive (g : Matrix) : Type 0 where
 -- An atom of this species and moment is at this position: an atom of the cell has them, and its own position differs
 -- from this one by whole cells, which are multiples of n in each coordinate.
 pub record Occupied (c : Structure) (species : ℕ) (position moment : Triple) : Type 0 where
-  pub site : Site
-  pub of_cell : IsMember site c.sites
-  pub same_species : site.species ≡ species
-  pub same_moment : site.moment ≡ moment
+  pub atom : Atom
+  pub of_cell : IsMember atom c.atoms
+  pub same_species : atom.species ≡ species
+  pub same_moment : atom.moment ≡ moment
   pub cells : Triple
-  pub same_position : position ≡ sum_of site.position (multiple (pos c.n) cells)
+  pub same_position : position ≡ sum_of atom.position (multiple (pos c.n) cells)
 
 -- the matrix keeps all lengths and angles
 abbrev pub KeepsMetric : Matrix → Matrix → Type 0

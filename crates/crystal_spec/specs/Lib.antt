@@ -3,3 +3,4 @@ pub mod Moments
 pub mod Crystals
 pub mod Operations
 pub mod Cells
+pub mod Species

@@ -13,7 +13,7 @@ use Rattle.plain_text.specs.FirstFaults.{first_of}
 use Rattle.plain_text.proofs.NumberWords.{IsWord}
 use Rattle.cell_text.specs.declared.version.Version.TheVariants.{One}
 use Rattle.cell_text.specs.Lines.{atom_word, word_fault, atom_entry, entry_of_words, entry_of}
-use Rattle.cell_text.specs.Entries.{AtomLine, values, atom_of}
+use Rattle.cell_text.specs.Entries.{AtomLine, values, atom_line_of}
 use Rattle.cell_text.specs.Rules.{are_numbers_of}
 use Rattle.cell_text.proofs.WordFaults.{word_passes}
 use Rattle.cell_print.proofs.TextCuts.{Follows, follows_end, follows_word, is_line_byte, word-line_bytes}
@@ -97,14 +97,14 @@ atom_with x y z m = record { name = codes "A"; x = x; y = y; z = z; ma = whole (
 abbrev pub atom_at : List ℕ → Node → AtomLine
 atom_at ds v = atom_with (eighth v.i) (eighth v.j) (eighth v.k) (component (draw_at ds v))
 
-moment-read : (x y z : List ℕ) (d : ℕ) → atom_of (codes "A") (values (x ∷ y ∷ z ∷ moment_words d)) ≡ atom_with (number_value x) (number_value y) (number_value z) (component d)
+moment-read : (x y z : List ℕ) (d : ℕ) → atom_line_of (codes "A") (values (x ∷ y ∷ z ∷ moment_words d)) ≡ atom_with (number_value x) (number_value y) (number_value z) (component d)
 unfolding number_value lowest gcd
 moment-read x y z zero = refl
 moment-read x y z (suc zero) = refl
 moment-read x y z (suc (suc d)) = refl
 
 -- It says the atom.
-pub atom_line-read : (ds : List ℕ) (v : Node) → InGrid v → atom_of (codes "A") (values (atom_words ds v)) ≡ atom_at ds v
+pub atom_line-read : (ds : List ℕ) (v : Node) → InGrid v → atom_line_of (codes "A") (values (atom_words ds v)) ≡ atom_at ds v
 atom_line-read ds v h =
     let x = eighths-value v.i h.i in
     let y = eighths-value v.j h.j in

@@ -4,7 +4,7 @@ use Rattle.std.specs.Prelude.{codes}
 use Rattle.std.specs.Fmt.{digits}
 use Rattle.generated_cell.specs.Generator.{next_state, draws}
 use Rattle.generated_cell.specs.GeneratedText.{node, row_of, plane_of, nodes, class_of, atom_line, text_of}
-use Rattle.generated_cell.specs.GeneratedCell.{component, site_of}
+use Rattle.generated_cell.specs.GeneratedCell.{component, atom_of}
 
 -- ---- the generator
 
@@ -71,5 +71,5 @@ two_lines : text_of of_seed_1 (node 0 0 1 ∷ node 0 1 0 ∷ []) ≡ codes "atom
 unfolding text_of atom_line digits
 two_lines = refl
 
-an_atom_of_the_cell : site_of of_seed_1 (node 0 0 0) ≡ record { species = 0; position = record { x = pos 0; y = pos 0; z = pos 0 }; moment = record { x = pos 0; y = pos 0; z = negsuc 0 } }
+an_atom_of_the_cell : atom_of of_seed_1 (node 0 0 0) ≡ record { species = 0; position = record { x = pos 0; y = pos 0; z = pos 0 }; moment = record { x = pos 0; y = pos 0; z = negsuc 0 } }
 an_atom_of_the_cell = refl

@@ -5,19 +5,19 @@ use Rattle.std.specs.List.{fold}
 use Rattle.numbers.specs.Gcd.{gcd}
 use Rattle.numbers.specs.Fraction.{whole}
 use Rattle.crystal_spec.specs.Moments.{axial_vectors}
-use Rattle.crystal_spec.specs.Crystals.{Site, Structure}
+use Rattle.crystal_spec.specs.Crystals.{Atom, Structure}
 use Rattle.plain_text.specs.Text.{lines}
 use Rattle.plain_text.specs.NumberWords.{scaled, common_denominator}
 use Rattle.cell_text.specs.Lines.{end_word}
 use Rattle.cell_text.specs.Entries.{positions, moments}
 use Rattle.cell_text.specs.Rules.{first_fault, cell_fault}
-use Rattle.cell_text.specs.CellFile.{with_name, names_of, site_of as site_read, cell_with, cell_of, Spells}
+use Rattle.cell_text.specs.CellFile.{with_name, names_of, atom_of as atom_read, cell_with, cell_of, Spells}
 use Rattle.cell_print.specs.Printable.{divisor_with}
 use Rattle.cell_print.proofs.TextCuts.{lines_line}
 use Rattle.cell_print.proofs.CommonDenominators.{common_denominator-reduced}
 use Rattle.generated_cell.specs.Generator.{draws}
 use Rattle.generated_cell.specs.GeneratedText.{Node, row_of, plane_of, nodes, draw_at, atom_line, text_of, generated_text}
-use Rattle.generated_cell.specs.GeneratedCell.{component, site_of, generated_cell}
+use Rattle.generated_cell.specs.GeneratedCell.{component, atom_of, generated_cell}
 use Rattle.generated_cell.proofs.Eighths.{eighth-scaled}
 use Rattle.generated_cell.proofs.AtomLines.{InGrid, atom_at, atom_line-bytes, atom_line-length}
 use Rattle.generated_cell.proofs.JudgedText.{number_of, AreRising, nodes-rising, nodes-count, coordinates, positions-atoms, moments-unit, heading_line, metric_line, whole_with, lines-read}
@@ -65,38 +65,38 @@ component-scaled zero = refl
 component-scaled (suc zero) = refl
 component-scaled (suc (suc d)) = refl
 
-site-is : (ds : List ℕ) (v : Node) → InGrid v → site_read (codes "A" ∷ []) 8 1 (atom_at ds v) ≡ site_of ds v
-site-is ds v h =
+atom-is : (ds : List ℕ) (v : Node) → InGrid v → atom_read (codes "A" ∷ []) 8 1 (atom_at ds v) ≡ atom_of ds v
+atom-is ds v h =
     let x = eighth-scaled v.i h.i in
     let y = eighth-scaled v.j h.j in
     let z = eighth-scaled v.k h.k in
     let m = component-scaled (draw_at ds v) in
     λ t. record { species = 0; position = record { x = x t; y = y t; z = z t }; moment = record { x = pos 0; y = pos 0; z = m t } }
 
-sites-are : (ds : List ℕ) (m : ℕ) (vs : List Node) → AreRising m vs → map (site_read (codes "A" ∷ []) 8 1) (map (atom_at ds) vs) ≡ map (site_of ds) vs
-sites-are ds m [] rising = refl
-sites-are ds m (v ∷ vs) rising =
-    ap (λ (s : Site). s ∷ map (site_read (codes "A" ∷ []) 8 1) (map (atom_at ds) vs)) (site-is ds v rising.0.0) ∙ ap (λ (ss : List Site). site_of ds v ∷ ss) (sites-are ds (number_of v + 1) vs rising.1)
+atoms-are : (ds : List ℕ) (m : ℕ) (vs : List Node) → AreRising m vs → map (atom_read (codes "A" ∷ []) 8 1) (map (atom_at ds) vs) ≡ map (atom_of ds) vs
+atoms-are ds m [] rising = refl
+atoms-are ds m (v ∷ vs) rising =
+    ap (λ (s : Atom). s ∷ map (atom_read (codes "A" ∷ []) 8 1) (map (atom_at ds) vs)) (atom-is ds v rising.0.0) ∙ ap (λ (ss : List Atom). atom_of ds v ∷ ss) (atoms-are ds (number_of v + 1) vs rising.1)
 
 cell-is : (seed : ℕ) → cell_with (whole_with (draws 8 seed) nodes) ≡ generated_cell seed
 unfolding cell_with generated_cell
 cell-is seed =
     let ds = draws 8 seed in
     let atoms = map (atom_at ds) nodes in
-    ap (λ (ns : List (List ℕ)). made ns (common_denominator (positions atoms)) (common_denominator (moments atoms)) (map (site_read ns (common_denominator (positions atoms)) (common_denominator (moments atoms))) atoms)) (names-one ds nodes (omega (arith, nodes-count)))
-    ∙ ap (λ (n : ℕ). made (codes "A" ∷ []) n (common_denominator (moments atoms)) (map (site_read (codes "A" ∷ []) n (common_denominator (moments atoms))) atoms)) (positions-unit ds)
-    ∙ ap (λ (k : ℕ). made (codes "A" ∷ []) 8 k (map (site_read (codes "A" ∷ []) 8 k) atoms)) (moments-unit ds nodes)
-    ∙ ap (made (codes "A" ∷ []) 8 1) (sites-are ds 0 nodes nodes-rising)
+    ap (λ (ns : List (List ℕ)). made ns (common_denominator (positions atoms)) (common_denominator (moments atoms)) (map (atom_read ns (common_denominator (positions atoms)) (common_denominator (moments atoms))) atoms)) (names-one ds nodes (omega (arith, nodes-count)))
+    ∙ ap (λ (n : ℕ). made (codes "A" ∷ []) n (common_denominator (moments atoms)) (map (atom_read (codes "A" ∷ []) n (common_denominator (moments atoms))) atoms)) (positions-unit ds)
+    ∙ ap (λ (k : ℕ). made (codes "A" ∷ []) 8 k (map (atom_read (codes "A" ∷ []) 8 k) atoms)) (moments-unit ds nodes)
+    ∙ ap (made (codes "A" ∷ []) 8 1) (atoms-are ds 0 nodes nodes-rising)
   where
-    made : List (List ℕ) → ℕ → ℕ → List Site → Structure
-    made names n k sites = record {
+    made : List (List ℕ) → ℕ → ℕ → List Atom → Structure
+    made names n k atoms = record {
       names = names;
       scale = pos 1;
       metric = record { a11 = pos 64; a12 = pos 0; a13 = pos 0; a21 = pos 0; a22 = pos 64; a23 = pos 0; a31 = pos 0; a32 = pos 0; a33 = pos 64 };
       n = n;
       k = k;
       kind = axial_vectors;
-      sites = sites;
+      atoms = atoms;
     }
 
 -- ---- the text spells the cell

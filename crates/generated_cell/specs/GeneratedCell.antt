@@ -1,11 +1,11 @@
 -- The cell that the generated text spells.
 --   component d           the third component of the moment that a draw gives
---   site_of ds v          the atom at a node, where these are the draws of the classes
+--   atom_of ds v          the atom at a node, where these are the draws of the classes
 --   generated_cell seed   the cell
 -- Our own.
 use Rattle.std.specs.Prelude.{ℕ, zero, suc, ℤ, pos, negsuc, List, [], ◌∷◌, map, codes}
 use Rattle.crystal_spec.specs.Moments.{axial_vectors}
-use Rattle.crystal_spec.specs.Crystals.{Site, Structure}
+use Rattle.crystal_spec.specs.Crystals.{Atom, Structure}
 use Rattle.generated_cell.specs.Generator.{draws}
 use Rattle.generated_cell.specs.GeneratedText.{Node, nodes, draw_at}
 
@@ -16,8 +16,8 @@ component (suc zero) = pos 1
 component (suc (suc d)) = negsuc 0
 
 -- The position is in units of 1/8, the moment along the third axis.
-abbrev pub site_of : List ℕ → Node → Site
-site_of ds v = record {
+abbrev pub atom_of : List ℕ → Node → Atom
+atom_of ds v = record {
   species = 0;
   position = record { x = pos v.i; y = pos v.j; z = pos v.k };
   moment = record { x = pos 0; y = pos 0; z = component (draw_at ds v) };
@@ -32,5 +32,5 @@ generated_cell seed = record {
   n = 8;
   k = 1;
   kind = axial_vectors;
-  sites = map (site_of (draws 8 seed)) nodes;
+  atoms = map (atom_of (draws 8 seed)) nodes;
 }

@@ -22,7 +22,7 @@ pub fn generate(alloc: Global, seed: u32) -> Result<Bytes, AllocError>
 {
     let draws = draws(seed);
     let mut out = Bytes::copy(alloc, b"magcell 1\nmetric 64 64 64 0 0 0\n")?;
-    push_atoms(alloc, &mut out, &draws)?;
+    push_atoms(&mut out, &draws)?;
     out.append(b"end\n")?;
     Ok(out)
 }

@@ -1,5 +1,5 @@
 -- Sizes of translation parts and of natural numbers.
-use Rattle.std.proofs.Common.{ℕ, ◌+◌, ◌*◌, ◌≤◌, ℤ, pos, negsuc, ◌≤ℤ◌, ◌<ℤ◌, arith}
+use Rattle.std.proofs.Common.{ℕ, ◌≤◌, ℤ, pos, negsuc, ◌≤ℤ◌, ◌<ℤ◌, arith}
 use Rattle.std.proofs.lemmas.Int.{ints}
 use Rattle.ring.specs.Size.{AtMost}
 use Rattle.matrix3.specs.Matrices.{EachCoordinate}

@@ -37,7 +37,8 @@ use Rattle.group_match.specs.Sources.{op_of, IsStepPair, AreSources, HasNoInner}
 use Rattle.group_match.specs.Matching.{pair_of, source_op, AreCarried, HasNoImage, HasSameRows}
 use Rattle.group_match.specs.Origins.{AreSized, HasPlace, HasNoPlace}
 use Rattle.group_match.specs.Candidates.{matrix_of_number}
-use Rattle.group_match.specs.Tasks.{IsTask, AreSourcesOf, HasEntriesAtMost, IsNoneBefore}
+use Rattle.group_match.specs.Tasks.{IsTask, AreSourcesOf, IsNoneBefore}
+use Rattle.op_group.specs.Lists.{HasEntriesAtMost}
 use Rattle.group_match.proofs.Numbered.{number_of, number_below, matrix-number, entries_of_number, number_before}
 use Rattle.group_match.proofs.Blocks.{same_rows}
 

@@ -21,7 +21,7 @@ use Rattle.match_spec.specs.Points.{point, IsWhole, Equal}
 use Rattle.match_spec.specs.Fractions.{point_of}
 use Rattle.match_spec.specs.Maps.{Pair}
 use Rattle.match_spec.specs.FirstMap.{IsBefore}
-use Rattle.match_spec.specs.Places.{origin_at, IsBelow, IsPlace}
+use Rattle.match_spec.specs.BalancedPoints.{origin_at, IsBelow, IsPlace}
 use Rattle.match_spec.specs.Searching.{gap_sum, excess_at, AllWhole}
 use Rattle.match_spec.proofs.Bridge.{IsCoordinate, bridge}
 use Rattle.group_match.specs.declared.pair.Matched.{Matched}

@@ -17,7 +17,7 @@ use Rattle.match_spec.specs.Points.{point, IsPoint, IsInCell, IsWhole, Equal}
 use Rattle.match_spec.specs.Fractions.{point_of}
 use Rattle.match_spec.specs.Maps.{Pair}
 use Rattle.match_spec.specs.FirstMap.{IsBefore}
-use Rattle.match_spec.specs.Places.{origin_at, IsPlace}
+use Rattle.match_spec.specs.BalancedPoints.{origin_at, IsPlace}
 use Rattle.match_spec.specs.Searching.{gap_sum, AllWhole}
 use Rattle.group_match.specs.declared.pair.Matched.{Matched}
 

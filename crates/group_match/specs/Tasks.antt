@@ -1,15 +1,13 @@
 -- What a search is given.
---   HasEntriesAtMost k os     the matrix entries of the operations have at most this size
 --   IsTask h n m              the symbol's group h, and the found group m modulo n, with its sizes
 --   IsNoneBefore h n m s k    no matrix of the class with a number below k carries
 --   AreSourcesOf h s xs       xs are representatives of h, each with its matrix in the triangular basis
 use Rattle.std.specs.Prelude.{ℕ, pos, ◌<◌, ◌≤◌, ◌^◌, List, map, length}
-use Rattle.ring.specs.Size.{AtMost}
 use Rattle.lists.specs.Increasing.{IsMember, IsDistinct}
-use Rattle.matrix3.specs.Matrices.{EachEntry}
 use Rattle.crystal_spec.specs.Matrices.{Matrix, product}
 use Rattle.crystal_spec.specs.Operations.{Operation}
 use Rattle.op_group.specs.Groups.{IsGroupModulo}
+use Rattle.op_group.specs.Lists.{HasEntriesAtMost}
 use Rattle.op_group.specs.Views.{operation_of}
 use Rattle.mag_type.specs.MagneticTypes.{HasOnlyZeroTranslation}
 use Rattle.match_spec.specs.Points.{Point, IsPoint}
@@ -19,10 +17,6 @@ use Rattle.match_spec.specs.Searching.{AreRepresentatives}
 use Rattle.group_match.specs.declared.inner.Source.{Source}
 use Rattle.group_match.specs.Candidates.{matrix_of_number}
 use Rattle.group_match.specs.Sources.{op_of, IsInner}
-
--- the matrix entries have at most this size
-abbrev pub HasEntriesAtMost : ℕ → List Operation → Type 0
-HasEntriesAtMost k os = (o : Operation) → IsMember o os → EachEntry (AtMost k) o.matrix
 
 -- two groups, and the sizes of the found one
 pub record IsTask (h : List Operation) (n : ℕ) (m : List Operation) : Type 0 where

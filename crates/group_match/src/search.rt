@@ -9,9 +9,10 @@ ghost use Rattle.mag_type.specs.MagneticTypes.{HasOnlyZeroTranslation};
 ghost use Rattle.match_spec.specs.Points.{Point, IsPoint};
 ghost use Rattle.match_spec.specs.Fractions.{point_of};
 ghost use Rattle.match_spec.specs.Maps.{Carries};
-ghost use Rattle.match_spec.specs.FirstMap.{IsClass, IsStepMatrix, HasFewMatrices, IsLeastOrigin, IsFirst, IsNone, IsFirstMap, HasNoMap};
+ghost use Rattle.match_spec.specs.FirstMap.{IsClass, IsStepMatrix, IsLeastOrigin, IsFirst, IsNone, IsFirstMap, HasNoMap};
 ghost use Rattle.match_spec.specs.BalancedOrigins.{BalancedOriginsSuffice, BalancedOriginsAreKnown};
-ghost use Rattle.group_match.specs.Tasks.{HasEntriesAtMost, IsTask, AreSourcesOf, IsNoneBefore};
+ghost use Rattle.group_match.specs.Tasks.{IsTask, AreSourcesOf, IsNoneBefore};
+ghost use Rattle.op_group.specs.Lists.{HasEntriesAtMost, HasFewMatrices};
 
 use crate::candidate::{candidate, is_proper};
 use crate::column::may_match;
@@ -43,7 +44,7 @@ fn origin_for(
     ensures found { IfOk result (λ r. IfSome r (λ f. IsLeastOrigin back.now symbol.now.operations (pos found.now.n) found.now.operations class.now (point_of (vector_map fraction_of f)))) }
     ensures absent { IfOk result (λ r. IfNone r ((p : Point) → IsPoint p → ¬ (Carries (product class.now back.now) p symbol.now.operations (pos found.now.n) found.now.operations))) }
 {
-    let _form = found.count();
+    found.invariant();
     let turn = class.times(back);
     let ops = found.ops();
     let Some(pairs) = pairs_for(alloc, class, sources, ops)? else {
@@ -164,8 +165,8 @@ fn row_map(alloc: Global, symbol: &OpList, found: &OpList) -> Result<Option<Map>
     ensures found { IfOk result (λ r. IfSome r (λ map. IsFirstMap symbol.now.operations found.now.n found.now.operations map.class map.turn (point_of (vector_map fraction_of map.origin)))) }
     ensures absent { IfOk result (λ r. IfNone r (HasNoMap symbol.now.operations found.now.n found.now.operations)) }
 {
-    let _symbol_form = symbol.count();
-    let _found_form = found.count();
+    symbol.invariant();
+    found.invariant();
     let steps = step_basis(symbol);
     let reps = representatives(alloc, symbol)?;
     if !are_as_many(&reps, found) {

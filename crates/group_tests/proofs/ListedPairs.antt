@@ -7,8 +7,7 @@ use Rattle.matrix3.specs.Matrices.{EachEntry}
 use Rattle.crystal_spec.specs.Operations.{Operation, compare_of}
 use Rattle.crystal_spec.proofs.Ordered.{compare_exact}
 use Rattle.op_group.specs.Composition.{identity_operation}
-use Rattle.match_spec.specs.FirstMap.{HasFewMatrices}
-use Rattle.group_match.specs.Tasks.{HasEntriesAtMost}
+use Rattle.op_group.specs.Lists.{HasEntriesAtMost, HasFewMatrices}
 use Rattle.matrix3.proofs.FitsBySize.{entries_grown}
 
 -- the identity and o, in order

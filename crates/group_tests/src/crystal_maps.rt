@@ -5,7 +5,7 @@ ghost use Rattle.ring.specs.Size.{AtMost};
 ghost use Rattle.crystal_spec.specs.Crystals.{IsPositive};
 ghost use Rattle.crystal.specs.Views.{metric_of};
 ghost use Rattle.matrix3.specs.Bounds.{EntriesAtMost, CoordinatesAtMost};
-ghost use Rattle.prim_cell.specs.Sizes.{HasSizesOfRead};
+ghost use Rattle.crystal.specs.Sizes.{HasSizesOfRead};
 
 use crystal::{Atom, Cell, Metric, MomentKind, Name, Sign};
 use crystal_compare::{CrystalMap, MapList, all_maps};

@@ -11,8 +11,7 @@ ghost use Rattle.positions.specs.Positions.{triple_of};
 ghost use Rattle.op_group.specs.Composition.{identity_operation, IsComposed};
 ghost use Rattle.op_group.specs.Groups.{IsGroupModulo};
 ghost use Rattle.mag_type.specs.MagneticTypes.{HasOnlyZeroTranslation};
-ghost use Rattle.match_spec.specs.FirstMap.{HasFewMatrices};
-ghost use Rattle.group_match.specs.Tasks.{HasEntriesAtMost};
+ghost use Rattle.op_group.specs.Lists.{HasEntriesAtMost, HasFewMatrices};
 
 use crystal_spec::Sign;
 use crystal_spec::Sign::{Reversed, Same};

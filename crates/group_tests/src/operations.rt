@@ -229,7 +229,7 @@ fn put_in_order(alloc: Global, given: &[Given]) -> Result<OpList, AllocError> {
             kept.push(op)?;
         }
     }
-    Ok(OpList::sorted(4, kept))
+    OpList::sorted(4, kept)
 }
 
 /// Whether the six, with repetitions, are put in order at once, each once.

@@ -13,7 +13,8 @@ use Rattle.op_group.specs.Composition.{identity_operation, IsComposed, IsInverse
 use Rattle.op_group.specs.Groups.{IsGroupModulo}
 use Rattle.hall_symbol.specs.Compositions.{then}
 use Rattle.hall_symbol.proofs.Compositions.{then_composed, then_assoc, identity_then, then_identity}
-use Rattle.hall_text.specs.Products.{IsProduct, matrices_of, IsGroupOf, HasFewMatrices, HasEntriesAtMost}
+use Rattle.hall_text.specs.Products.{IsProduct, matrices_of, IsGroupOf}
+use Rattle.op_group.specs.Lists.{HasEntriesAtMost, HasFewMatrices}
 use Rattle.hall_text.specs.Splits.{AreRotations, StandForMatrices}
 use Rattle.hall_text.proofs.ProductLemmas.{product_within, product_then, identity_product}
 use Rattle.hall_text.proofs.Inverses.{undone}

@@ -3,7 +3,7 @@
 --   pushed_after, listed_after  the operations of one matrix, one by one
 --   listing_start, listing_next                the operations of all matrices
 --   listing_group                              they are exactly the products
-use Rattle.std.proofs.Common.{◌≡◌, ◌⊎◌, inl, inr, ℕ, suc, ◌<◌, ◌+◌, List, [], ◌∷◌, ◌++◌, length, take, get_or, map, refl, sym, ◌∙◌, ap, subst, append_assoc, add-one}
+use Rattle.std.proofs.Common.{◌≡◌, ◌⊎◌, inl, inr, ℕ, ◌<◌, ◌+◌, List, [], ◌∷◌, ◌++◌, length, take, get_or, map, refl, sym, ◌∙◌, ap, subst, append_assoc, add-one}
 use Rattle.std.specs.Prelude.{◌↔◌, pos, negsuc}
 use Rattle.std.proofs.Math.Seq.{take-suc}
 use Rattle.std.proofs.lemmas.List.{map-append}

@@ -3,13 +3,9 @@
 --   IsProduct gens o         o is the product of a finite list of operations of gens, the empty list included
 --   TooMany gens             49 products have 49 different matrices
 --   IsGroupOf gens os        os has exactly the products
---   HasFewMatrices k os      the matrices of os are among k matrices
---   HasEntriesAtMost k os    the entries of the matrices of os have at most this size
 -- Translation parts are in units of 1/12, from 0 to 11; `then` is that of hall_symbol's `specs/Compositions`.
-use Rattle.std.specs.Prelude.{◌≡◌, ◌↔◌, ◌≤◌, ℕ, List, [], ◌∷◌, map, length}
-use Rattle.ring.specs.Size.{AtMost}
+use Rattle.std.specs.Prelude.{◌≡◌, ◌↔◌, List, [], ◌∷◌, map, length}
 use Rattle.lists.specs.Increasing.{IsMember, IsDistinct}
-use Rattle.matrix3.specs.Matrices.{EachEntry}
 use Rattle.crystal_spec.specs.Matrices.{Matrix}
 use Rattle.crystal_spec.specs.Operations.{Operation}
 use Rattle.op_group.specs.Composition.{identity_operation}
@@ -46,13 +42,3 @@ pub record TooMany (gens : List Operation) : Type 0 where
 -- exactly the products
 pub record IsGroupOf (gens os : List Operation) : Type 0 where
   pub exact : (o : Operation) → IsMember o os ↔ IsProduct gens o
-
--- the matrices of the list are among k matrices
-pub record HasFewMatrices (k : ℕ) (os : List Operation) : Type 0 where
-  pub matrices : List Matrix
-  pub all : (o : Operation) → IsMember o os → IsMember o.matrix matrices
-  pub few : length matrices ≤ k
-
--- the matrix entries have at most this size
-abbrev pub HasEntriesAtMost : ℕ → List Operation → Type 0
-HasEntriesAtMost k os = (o : Operation) → IsMember o os → EachEntry (AtMost k) o.matrix

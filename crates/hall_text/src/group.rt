@@ -3,7 +3,8 @@ ghost use Rattle.std.specs.Prelude.{◌≡◌, ◌^◌, map, IfOk, IfErr};
 ghost use Rattle.op_group.specs.Groups.{IsGroupModulo};
 ghost use Rattle.op_group.specs.Views.{operation_of};
 ghost use Rattle.hall_symbol.specs.Symbols.{generators};
-ghost use Rattle.hall_text.specs.Products.{TooMany, IsGroupOf, HasFewMatrices, HasEntriesAtMost};
+ghost use Rattle.hall_text.specs.Products.{TooMany, IsGroupOf};
+ghost use Rattle.op_group.specs.Lists.{HasEntriesAtMost, HasFewMatrices};
 ghost use Rattle.hall_text.specs.Splits.{AreRotations, StandForMatrices, Refuses};
 
 use crate::closure::{closed_table, differences};
@@ -27,7 +28,8 @@ fn group_of(alloc: Global, gens: &[Op], reps: &[Op]) -> Result<OpList, AllocErro
     let steps = differences(alloc, reps, gens)?;
     let table = closed_table(alloc, &steps, gens)?;
     let ops = all_operations(alloc, reps, &table)?;
-    Ok(OpList::sorted(12, ops))
+    let list = OpList::sorted(12, ops)?;
+    Ok(list)
 }
 
 /// The group of the symbol: all products of its operations modulo whole translations, strictly increasing.

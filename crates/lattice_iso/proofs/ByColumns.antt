@@ -27,7 +27,7 @@ use Rattle.crystal.specs.declared.metric.Metric.{Metric}
 use Rattle.matrix3.specs.Bounds.{EntriesAtMost}
 use Rattle.lattice_iso.specs.Isometries.{matrix_order, ListsIsometries}
 use Rattle.lattice_iso.specs.Columns.{scalar_product, ListsOfLength, IsMatrixOf, HasColumns, HasColumnsOf}
-use Rattle.lattice_iso.proofs.Places.{matrix_order_exact}
+use Rattle.lattice_iso.proofs.MatrixPlaces.{matrix_order_exact}
 
 -- ---- one matrix
 

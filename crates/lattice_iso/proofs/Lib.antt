@@ -2,5 +2,5 @@
 mod KnownValues
 pub mod Candidates
 mod Ranges
-pub mod Places
+pub mod MatrixPlaces
 pub mod ByColumns

@@ -25,7 +25,7 @@ equal_of Less e = absurd (true≢false (sym e))
 equal_of Equal e = refl
 equal_of Greater e = absurd (true≢false (sym e))
 
-module _ {A X : Type 0} (cmp : X → X → Ordering) (total : IsTotalOrder cmp) (exact : CmpEqualImpliesEq cmp) (f : A → X) where
+module _ {A X : Type 0} (f : A → X) where
   -- the value of an element is a member
   member_of : (a : A) (ys : List A) (k : ℕ) → k < length ys → slice_index_or ys k a ≡ a → IsMember (f a) (map f ys)
   member_of a [] k below e = absurd (omega arith)
@@ -40,6 +40,17 @@ module _ {A X : Type 0} (cmp : X → X → Ordering) (total : IsTotalOrder cmp) 
       let later = value_of x ys m in
       record { element = later.element; of_list = (suc later.of_list.0, omega (arith, later.of_list.1), later.of_list.2); is = later.is }
 
+  kept_by_permutation : (xs ys : List A) → IsPermutation xs ys → (x : X) → IsMember x (map f xs) → IsMember x (map f ys)
+  kept_by_permutation xs ys moved x m =
+      let value = value_of x xs m in
+      let there = Contains-permutation xs ys value.element moved value.of_list in
+      subst (λ z. IsMember z (map f ys)) (sym value.is) (member_of value.element ys there.0 there.1 there.2)
+
+  -- in another order, a list has the values that were there
+  pub members-permuted : (xs ys : List A) → IsPermutation xs ys → (x : X) → IsMember x (map f ys) ↔ IsMember x (map f xs)
+  members-permuted xs ys moved x = (kept_by_permutation ys xs (IsPermutation-sym xs ys moved) x, kept_by_permutation xs ys moved x)
+
+module _ {A X : Type 0} (cmp : X → X → Ordering) (total : IsTotalOrder cmp) (exact : CmpEqualImpliesEq cmp) (f : A → X) where
   below_of : (x : A) (ys : List A) → AllByRecursion (λ y. on f cmp x y ≡ Less) ys → IsBelowAll cmp (f x) (map f ys)
   below_of x [] h = tt
   below_of x (y ∷ ys) h = (h.0, below_of x ys h.1)
@@ -59,14 +70,14 @@ module _ {A X : Type 0} (cmp : X → X → Ordering) (total : IsTotalOrder cmp) 
     where
       back : IsMember x (map f (dedup (eq_by_cmp (on f cmp)) ys)) → IsMember x (map f xs)
       back m =
-          let value = value_of x _ m in
+          let value = value_of f x _ m in
           let there = Contains-permutation ys xs value.element (IsPermutation-sym xs ys moved) (Contains-from_dedup (eq_by_cmp (on f cmp)) ys value.element value.of_list) in
-          subst (λ z. IsMember z (map f xs)) (sym value.is) (member_of value.element xs there.0 there.1 there.2)
+          subst (λ z. IsMember z (map f xs)) (sym value.is) (member_of f value.element xs there.0 there.1 there.2)
 
       kept : IsMember x (map f xs) → IsMember x (map f (dedup (eq_by_cmp (on f cmp)) ys))
       kept m =
-          let value = value_of x xs m in
+          let value = value_of f x xs m in
           let there = Contains-permutation xs ys value.element moved value.of_list in
           let twin = Any-dedup (eq_by_cmp_equiv (on_total f total)) ys value.element there in
           let same : f value.element ≡ f twin.1 = exact _ _ (equal_of (cmp (f value.element) (f twin.1)) twin.4) in
-          subst (λ z. IsMember z (map f (dedup (eq_by_cmp (on f cmp)) ys))) (sym (value.is ∙ same)) (member_of twin.1 _ twin.0 twin.2 twin.3)
+          subst (λ z. IsMember z (map f (dedup (eq_by_cmp (on f cmp)) ys))) (sym (value.is ∙ same)) (member_of f twin.1 _ twin.0 twin.2 twin.3)

@@ -1,5 +1,6 @@
-mod Found
+mod KeptMaps
 mod Counts
 mod NothingMissed
-pub mod Carrying
+mod CarriedBack
 mod KnownValues
+mod FullGroups

@@ -11,7 +11,7 @@ use Rattle.std.specs.Prelude.{◌≡◌, ℕ, Bool, List, slice_get, Some}
 use Rattle.lists.specs.Any.{AnyBelow}
 use Rattle.crystal_spec.specs.declared.Sign.{Sign}
 use Rattle.crystal_spec.specs.Matrices.{Matrix, Triple, image, difference}
-use Rattle.crystal_spec.specs.Crystals.{Site, Structure, Keeps}
+use Rattle.crystal_spec.specs.Crystals.{Atom, Structure, Keeps}
 use Rattle.crystal_spec.specs.Operations.{Operation, IsSymmetryOperation, sign_factor}
 use Rattle.positions.specs.Positions.{IsModulo}
 use Rattle.mag_ops.specs.Groups.{IsWanted}
@@ -22,19 +22,19 @@ pub record IsKeptAs (c : Structure) (w : Matrix) (t : Triple) (sign : Sign) (o :
   pub same_sign : o.sign ≡ sign
   pub keeps : Keeps c w t (sign_factor sign)
 
-pub record IsOnto (c : Structure) (time : Bool) (w : Matrix) (from onto : Site) (o : Operation) : Type 0 where
+pub record IsOnto (c : Structure) (time : Bool) (w : Matrix) (from onto : Atom) (o : Operation) : Type 0 where
   pub same_matrix : o.matrix ≡ w
   pub translation : IsModulo c.n (difference onto.position (image w from.position)) o.translation
   pub wanted : IsWanted time o.sign
   pub keeps : Keeps c w o.translation (sign_factor o.sign)
 
-pub record IsFromAtom (c : Structure) (time : Bool) (w : Matrix) (from : Site) (o : Operation) (number : ℕ) : Type 0 where
-  pub site : Site
-  pub is_site : slice_get c.sites number ≡ Some site
-  pub same_species : site.species ≡ from.species
-  pub onto : IsOnto c time w from site o
+pub record IsFromAtom (c : Structure) (time : Bool) (w : Matrix) (from : Atom) (o : Operation) (number : ℕ) : Type 0 where
+  pub atom : Atom
+  pub is_atom : slice_get c.atoms number ≡ Some atom
+  pub same_species : atom.species ≡ from.species
+  pub onto : IsOnto c time w from atom o
 
-abbrev pub IsFromAtoms : Structure → Bool → Matrix → Site → ℕ → Operation → Type 0
+abbrev pub IsFromAtoms : Structure → Bool → Matrix → Atom → ℕ → Operation → Type 0
 IsFromAtoms c time w from k o = AnyBelow k (IsFromAtom c time w from o)
 
 pub record IsKeptBy (c : Structure) (time : Bool) (w : Matrix) (o : Operation) : Type 0 where

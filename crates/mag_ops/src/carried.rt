@@ -3,6 +3,7 @@
 ghost use Rattle.std.specs.Prelude.{◌≡◌, ◌↔◌, ◌⊎◌, ◌^◌, ◌≤◌, pos, ◌+ℤ◌, map, OnOk, IfOk, IfSome, IfNone};
 ghost use Rattle.std.specs.Int.{int_rem_euclid};
 ghost use Rattle.ring.specs.Size.{AtMost};
+ghost use Rattle.lists.specs.Any.{AnyOf};
 ghost use Rattle.lists.specs.Increasing.{IsMember};
 ghost use Rattle.crystal_spec.specs.Matrices.{Triple, Matrix, product, image, multiple, sum_of};
 ghost use Rattle.crystal_spec.specs.Crystals.{Structure};
@@ -14,7 +15,7 @@ ghost use Rattle.basis_spec.specs.Bases.{IsPrimitiveIn, cell_in_basis};
 ghost use Rattle.basis_spec.specs.Carrying.{IsCarried};
 ghost use Rattle.matrix3.specs.Matrices.{of_columns};
 ghost use Rattle.op_group.specs.Views.{operation_of};
-ghost use Rattle.mag_ops.specs.Carried.{IsCarriedFrom, IsTranslated};
+ghost use Rattle.mag_ops.specs.Carried.{IsCarriedFrom};
 
 use crystal::Sign;
 use exact_num::Int;
@@ -56,7 +57,7 @@ fn matrix_in_cell(prim: &Primitive, v: &Mat3<Int>) -> Option<Mat3<Int>>
     ensures found { IfSome result (λ w. product v.now prim.now.back ≡ product prim.now.back w) }
     ensures absent { IfNone result ((w : Matrix) → ¬ (product v.now prim.now.back ≡ product prim.now.back w)) }
 {
-    let _index = prim.index();
+    prim.invariant();
     let turned = v.times(prim.back());
     let (first, second, third) = turned.columns();
     Some(Mat3::of_columns(
@@ -76,44 +77,70 @@ fn moved(start: &Vec3<Int>, shift: [u32; 3], n: u32) -> [u32; 3]
     modulo(&start.plus(&column(shift)), n)
 }
 
-/// Adds the operations of a matrix and a time sign whose translation parts are a column and a pure translation, modulo n.
-fn add_translated(
+/// The sums of a column and the pure translations of the cell, modulo n, in order.
+///
+/// Refuses for want of memory alone.
+fn shifts_of(
+    alloc: Global,
     prim: &Primitive,
-    w: &Mat3<Int>,
     start: &Vec3<Int>,
-    sign: Sign,
-    found: &mut Vec<Op>,
-) -> Result<(), AllocError>
+) -> Result<Vec<[u32; 3]>, AllocError>
     requires { CoordinatesAtMost (10 ^ 26) start.now }
-    ensures { OnOk result ((o : Operation) → IsMember o (map operation_of found.new.items) ↔ (IsTranslated prim.now.cell.n w.now start.now sign prim.now.shifts.operations o ⊎ IsMember o (map operation_of found.old.items))) }
+    ensures { IfOk result (λ shifts. (t : Triple) → IsMember t (map triple_of shifts.items) ↔ AnyOf prim.now.shifts.operations (λ p. t ≡ modulo prim.now.cell.n (sum_of start.now p.translation))) }
 {
     let cell = prim.cell();
-    let _form = cell.count();
+    cell.invariant();
     let n = cell.n();
     let pure_translations = prim.shifts().ops();
+    let mut shifts = Vec::with_capacity(alloc, pure_translations.len())?;
     for pure in pure_translations {
-        let shift = moved(start, pure.shift, n);
-        found.push(Op { w: *w, shift, sign })?;
+        shifts.push(moved(start, pure.shift, n))?;
+    }
+    shifts.sort_unstable();
+    Ok(shifts)
+}
+
+/// Adds the operations of this matrix and time sign with each of the translation parts.
+fn add_shifted(
+    w: &Mat3<Int>,
+    sign: Sign,
+    shifts: &[[u32; 3]],
+    found: &mut Vec<Op>,
+) -> Result<(), AllocError>
+    ensures { OnOk result ((o : Operation) → IsMember o (map operation_of found.new.items) ↔ (AnyOf (map triple_of shifts.now) (λ t. o ≡ record { matrix = w.now; translation = t; sign = sign }) ⊎ IsMember o (map operation_of found.old.items))) }
+{
+    for shift in shifts {
+        found.push(Op {
+            w: *w,
+            shift: *shift,
+            sign,
+        })?;
     }
     Ok(())
 }
 
 /// Adds the operations of the cell that Q takes to this one of the primitive cell.
-fn add_carried(prim: &Primitive, op: &Op, found: &mut Vec<Op>) -> Result<(), AllocError>
+fn add_carried(
+    alloc: Global,
+    prim: &Primitive,
+    op: &Op,
+    found: &mut Vec<Op>,
+) -> Result<(), AllocError>
     requires small { EntriesAtMost 1 op.now.w }
     requires below_n { IsWithinCell prim.now.cell.n (triple_of op.now.shift) }
     ensures { OnOk result ((o : Operation) → IsMember o (map operation_of found.new.items) ↔ (IsCarriedFrom prim.now.cell.n prim.now.back (operation_of op.now) o ⊎ IsMember o (map operation_of found.old.items))) }
 {
-    let _form = prim.cell().count();
-    let _index = prim.index();
-    let _translations = prim.shifts().count();
+    prim.cell().invariant();
+    prim.invariant();
+    prim.shifts().invariant();
     let Some(w) = matrix_in_cell(prim, &op.w) else {
         return Ok(());
     };
     let Some(start) = column_in_cell(prim, &column(op.shift)) else {
         return Ok(());
     };
-    add_translated(prim, &w, &start, op.sign, found)
+    let shifts = shifts_of(alloc, prim, &start)?;
+    add_shifted(&w, op.sign, &shifts, found)
 }
 
 /// All operations of the crystal in the basis of the cell that the primitive cell was made of, each once in order, with n that
@@ -130,14 +157,15 @@ pub fn in_cell(alloc: Global, prim: &Primitive, list: &OpList) -> Result<OpList,
     ensures all_same { IfOk result (λ found. (c : Structure) → IsCell c → IsPrimitiveIn c prim.now.back → cell_in_basis c prim.now.back ≡ prim.now.cell → ListsAllSame prim.now.cell list.now.operations → ListsAllSame c found.operations) }
 {
     let cell = prim.cell();
-    let _form = cell.count();
-    let _index = prim.index();
+    cell.invariant();
+    prim.invariant();
     let ops = list.ops();
-    let mut carried = Vec::new(alloc);
+    let most = ops.len().saturating_mul(prim.shifts().count());
+    let mut carried = Vec::with_capacity(alloc, most)?;
     for op in ops {
-        add_carried(prim, op, &mut carried)?;
+        add_carried(alloc, prim, op, &mut carried)?;
     }
-    let found = OpList::sorted(cell.n(), carried);
-    let _count = found.count();
+    let found = OpList::sorted(cell.n(), carried)?;
+    found.invariant();
     Ok(found)
 }

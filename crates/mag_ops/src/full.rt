@@ -5,17 +5,19 @@ ghost use Rattle.lists.specs.Increasing.{IsMember};
 ghost use Rattle.crystal_spec.specs.declared.Sign.{Sign};
 ghost use Rattle.crystal_spec.specs.Matrices.{Matrix, Triple};
 ghost use Rattle.crystal_spec.specs.Operations.{Operation, IsWithinCell, sign_factor};
-ghost use Rattle.crystal.specs.Views.{site_of};
+ghost use Rattle.crystal.specs.Views.{atom_of};
 ghost use Rattle.positions.specs.Positions.{triple_of};
 ghost use Rattle.matrix3.specs.Bounds.{EntriesAtMost};
 ghost use Rattle.crystal.specs.Actions.{ActsOn};
 ghost use Rattle.lattice_iso.specs.Isometries.{ListsIsometries};
-ghost use Rattle.basis_spec.specs.Translations.{of_species, IsRarest};
+ghost use Rattle.crystal_spec.specs.Species.{of_species, IsRarest};
 ghost use Rattle.basis_spec.specs.Carrying.{KeepsAny, IsListed};
+ghost use Rattle.op_group.specs.Groups.{IsGroupModulo};
+ghost use Rattle.op_group.specs.Lists.{HasEntriesAtMost};
+ghost use Rattle.mag_type.specs.MagneticTypes.{HasOnlyZeroTranslation};
 ghost use Rattle.mag_ops.specs.Candidates.{IsKeptAs, IsKeptBy, IsOnto};
 ghost use Rattle.mag_ops.specs.Groups.{ListsGroup, IsWanted, signs};
 
-use crate::rarest::rarest;
 use crystal::{Action, Atom, Failure, Places, Sign, Steps};
 use lattice_iso::{Isos, isometries};
 use op_group::{Op, OpList};
@@ -66,11 +68,11 @@ fn add_kept_onto<L: Ledger>(
     requires acts { ActsOn places.now action.now }
     requires found_n { found.old.n ≡ places.now.n }
     ensures n { found.new.n ≡ places.now.n }
-    ensures members { OnOk result ((o : Operation) → IsMember o found.new.operations ↔ (IsOnto places.now time action.now.matrix (site_of from.now) (site_of onto.now) o ⊎ IsMember o found.old.operations)) }
+    ensures members { OnOk result ((o : Operation) → IsMember o found.new.operations ↔ (IsOnto places.now time action.now.matrix (atom_of from.now) (atom_of onto.now) o ⊎ IsMember o found.old.operations)) }
     ensures ticks_at_most { steps.new ≤ steps.old + signs time }
     ensures ticks_at_least { OnOk result (length found.new.operations + steps.old ≤ length found.old.operations + steps.new) }
 {
-    let _form = places.cell().count();
+    places.cell().invariant();
     let shift = action.translation_onto(from.place, onto.place);
     add_kept(places, action, shift, Sign::Same, found, last, steps)?;
     if !time {
@@ -93,11 +95,11 @@ fn add_kept_by<L: Ledger>(
 ) -> Result<(), AllocError>
     requires small { EntriesAtMost 1 action.now.matrix }
     requires acts { ActsOn places.now action.now }
-    requires of_cell { IsMember (site_of from.now) places.now.sites }
+    requires of_cell { IsMember (atom_of from.now) places.now.atoms }
     requires found_n { found.old.n ≡ places.now.n }
     ensures n { found.new.n ≡ places.now.n }
     ensures members { OnOk result ((o : Operation) → IsMember o found.new.operations ↔ (IsKeptBy places.now time action.now.matrix o ⊎ IsMember o found.old.operations)) }
-    ensures ticks_at_most { steps.new ≤ steps.old + signs time * length (of_species from.now.species places.now.sites) }
+    ensures ticks_at_most { steps.new ≤ steps.old + signs time * length (of_species from.now.species places.now.atoms) }
     ensures ticks_at_least { OnOk result (length found.new.operations + steps.old ≤ length found.old.operations + steps.new) }
 {
     let cell = places.cell();
@@ -126,21 +128,22 @@ fn all_kept<L: Ledger>(
     ensures ticks_at_least { IfOk result (λ list. length list.operations + steps.old ≤ steps.new) }
 {
     let cell = places.cell();
-    let from = rarest(cell);
+    let from = cell.atom(cell.rarest());
     let mut found = OpList::new(alloc, cell.n());
     let mut last = Failure::none();
     for i in 0..matrices.count() {
         let action = places.action(matrices.at(i));
         add_kept_by(places, time, &action, from, &mut found, &mut last, steps)?;
     }
-    let _count = found.count();
+    found.invariant();
     Ok(found)
 }
 
 /// All operations that keep the crystal of the primitive cell, each once in order, with n that of the cell.
 ///
 /// In the basis of the primitive cell; with `time` false only those that do not reverse time, and then no map that
-/// reverses it is tested. An operation carries an atom of a rarest species onto an atom of that species, so for each
+/// reverses it is tested. They are a group, without a pure translation but 0, and their matrices have entries -1, 0 and 1. An
+/// operation carries an atom of a rarest species onto an atom of that species, so for each
 /// isometry of the metric tensor only the translation parts that do so are tried. Refuses for want of memory alone.
 pub fn full_group<L: Ledger>(
     alloc: Global,
@@ -150,13 +153,16 @@ pub fn full_group<L: Ledger>(
 ) -> Result<OpList, AllocError>
     ensures n { IfOk result (λ list. list.n ≡ prim.now.cell.n) }
     ensures exact { IfOk result (λ list. ListsGroup prim.now.cell time list.operations) }
+    ensures group { IfOk result (λ list. IsGroupModulo list.n list.operations) }
+    ensures primitive { IfOk result (λ list. HasOnlyZeroTranslation list.operations) }
+    ensures small { IfOk result (λ list. HasEntriesAtMost 1 list.operations) }
     ensures nothing_missed { IfOk result (λ list. (b : Matrix) (t : Triple) (d : ℕ) (sign : Sign) → IsWanted time sign → KeepsAny prim.now.cell b t d (sign_factor sign) → IsListed prim.now.cell.n list.operations b t d sign) }
     ensures ticks_at_most { (matrices : List Matrix) (count : ℕ) → ListsIsometries prim.now.cell.metric matrices → IsRarest prim.now.cell count → steps.new ≤ steps.old + signs time * (length matrices * count) }
     ensures ticks_at_least { IfOk result (λ list. length list.operations + steps.old ≤ steps.new) }
 {
-    let _form = prim.index();
+    prim.invariant();
     let cell = prim.cell();
-    let _cell = cell.count();
+    cell.invariant();
     let places = Places::new(alloc, cell)?;
     let matrices = isometries(alloc, cell.metric())?;
     all_kept(alloc, &places, time, &matrices, steps)

@@ -8,7 +8,6 @@
 
 mod carried;
 mod full;
-mod rarest;
 
 pub use carried::in_cell;
 pub use full::full_group;

@@ -87,7 +87,7 @@ fn is_first_of_pair(list: &OpList, op: &Op) -> bool
 fn family_count(list: &OpList) -> usize
     ensures { IsNumberOf (IsInFamily list.now.operations) result }
 {
-    let _form = list.count();
+    list.invariant();
     let mut count = 0;
     for op in list.ops() {
         if is_first_of_pair(list, op) {
@@ -128,7 +128,7 @@ pub fn classify(list: &OpList) -> Kind
     ensures kind { IsMagneticType list.now.operations result.kind }
     ensures only { (k : ℕ) → IsMagneticType list.now.operations k → k ≡ result.kind }
 {
-    let _form = list.count();
+    list.invariant();
     Kind {
         kind: magnetic_type(list),
         family: family_count(list) as u64,

@@ -8,7 +8,7 @@ use Rattle.matrix3.specs.Matrices.{coordinates, vector_of_variables}
 use Rattle.crystal_spec.specs.Matrices.{Triple, multiple, sum_of, difference}
 use Rattle.crystal_spec.proofs.Identities.{by_integers, by_triples}
 use Rattle.match_spec.specs.Points.{Point, point, IsPoint, SameModuloOne, IsInCell, Equal}
-use Rattle.match_spec.specs.Places.{origin_at, IsBelow, IsPlace}
+use Rattle.match_spec.specs.BalancedPoints.{origin_at, IsBelow, IsPlace}
 use Rattle.match_spec.proofs.Wholes.{cancel_v, not_zero}
 use Rattle.match_spec.proofs.Units.{InUnits, same_to, same_from}
 

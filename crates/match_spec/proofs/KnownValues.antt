@@ -9,7 +9,7 @@ use Rattle.match_spec.specs.Points.{point, SameModuloOne, Equal}
 use Rattle.match_spec.specs.Fractions.{point_of}
 use Rattle.match_spec.specs.Maps.{image_shift, IsImage, Pair, balance, IsBalanced}
 use Rattle.match_spec.specs.FirstMap.{IsLess}
-use Rattle.match_spec.specs.Places.{origin_at}
+use Rattle.match_spec.specs.BalancedPoints.{origin_at}
 
 abbrev inversion : Matrix
 inversion = record { a11 = negsuc 0; a12 = pos 0; a13 = pos 0; a21 = pos 0; a22 = negsuc 0; a23 = pos 0; a31 = pos 0; a32 = pos 0; a33 = negsuc 0 }

@@ -38,7 +38,7 @@ use Rattle.match_spec.proofs.Balances.{reduced_balance}
 use Rattle.match_spec.proofs.Candidates.{IsReduced}
 use Rattle.match_spec.proofs.Firsts.{none_at}
 use Rattle.match_spec.proofs.Conjugate.{conjugated, inner}
-use Rattle.match_spec.specs.Places.{origin_at, IsPlace}
+use Rattle.match_spec.specs.BalancedPoints.{origin_at, IsPlace}
 use Rattle.match_spec.proofs.ListedGroups.{some_cells, group_of, primitive_of, same_member, IsStep}
 
 -- ---- lists of classes

@@ -5,7 +5,6 @@
 --   IsLess p q                p comes before q, by the three values in order
 --   IsClass c                 c is a matrix P of the class
 --   IsStepMatrix h s          s is S
---   HasFewMatrices k h        the matrices of h are among k
 --   IsNone s h n m            no P and no point at all carry
 --   IsLeastOrigin s h n m c p p is the least balanced point of the cell with which the map of P = c carries
 --   IsFirst s h n m c p       c is the first P for which any point carries, and p is that point
@@ -45,12 +44,6 @@ pub record IsStepMatrix (h : List Operation) (s : Matrix) : Type 0 where
   pub index : ℕ
   pub fore : Matrix
   pub steps : IsSteps 12 (InLattice 12 h) index s fore
-
--- the matrices of the list are among k matrices
-pub record HasFewMatrices (k : ℕ) (h : List Operation) : Type 0 where
-  pub matrices : List Matrix
-  pub all : (o : Operation) → IsMember o h → IsMember o.matrix matrices
-  pub few : length matrices ≤ k
 
 -- no P of the class and no point at all carry
 pub record IsNone (s : Matrix) (h : List Operation) (n : ℤ) (m : List Operation) : Type 0 where

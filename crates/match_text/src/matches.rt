@@ -12,33 +12,28 @@ use plain_text::{push_decimal, push_number};
 use std::alloc::{AllocError, Global};
 
 /// Adds a fraction in lowest terms, behind a space.
-fn push_coordinate(alloc: Global, out: &mut Bytes, coordinate: Frac) -> Result<(), AllocError>
+fn push_coordinate(out: &mut Bytes, coordinate: Frac) -> Result<(), AllocError>
     ensures { OnOk result (out.new ≡ out.old ++ coordinate_text coordinate) }
 {
     out.push(b' ')?;
-    push_number(
-        alloc,
-        out,
-        coordinate.num(),
-        coordinate.den().unsigned_abs(),
-    )
+    push_number(out, coordinate.num(), coordinate.den().unsigned_abs())
 }
 
 /// Adds three fractions, each behind a space.
-fn push_coordinates(alloc: Global, out: &mut Bytes, point: &Vec3<Frac>) -> Result<(), AllocError>
+fn push_coordinates(out: &mut Bytes, point: &Vec3<Frac>) -> Result<(), AllocError>
     ensures { OnOk result (out.new ≡ out.old ++ coordinates_text point.now) }
 {
     let point = *point;
-    push_coordinate(alloc, out, point.x)?;
-    push_coordinate(alloc, out, point.y)?;
-    push_coordinate(alloc, out, point.z)
+    push_coordinate(out, point.x)?;
+    push_coordinate(out, point.y)?;
+    push_coordinate(out, point.z)
 }
 
 /// Adds the number of a row and its name.
-fn push_name(alloc: Global, out: &mut Bytes, number: usize, name: &[u8]) -> Result<(), AllocError>
+fn push_name(out: &mut Bytes, number: usize, name: &[u8]) -> Result<(), AllocError>
     ensures { OnOk result (out.new ≡ out.old ++ (decimal number ++ 32 ∷ name.now)) }
 {
-    push_decimal(alloc, out, number as u128)?;
+    push_decimal(out, number as u128)?;
     out.push(b' ')?;
     out.append(name)
 }
@@ -51,7 +46,7 @@ pub fn push_map(alloc: Global, out: &mut Bytes, map: &Map) -> Result<(), AllocEr
     ensures { OnOk result (out.new ≡ out.old ++ (entries_text map.now.turn ++ coordinates_text map.now.origin ++ 10 ∷ [])) }
 {
     push_entries(alloc, out, &map.turn)?;
-    push_coordinates(alloc, out, &map.origin)?;
+    push_coordinates(out, &map.origin)?;
     out.push(b'\n')
 }
 
@@ -65,7 +60,7 @@ fn push_row(
 ) -> Result<(), AllocError>
     ensures { OnOk result (out.new ≡ out.old ++ row_text number name.now map.now) }
 {
-    push_name(alloc, out, number, name)?;
+    push_name(out, number, name)?;
     push_map(alloc, out, map)
 }
 

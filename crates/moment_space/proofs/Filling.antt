@@ -9,7 +9,7 @@ use Rattle.std.specs.Prelude.{pos}
 use Rattle.lists.specs.Increasing.{IsMember}
 use Rattle.crystal_spec.specs.declared.MomentKind.{MomentKind}
 use Rattle.crystal_spec.specs.Matrices.{Triple, multiple, sum_of}
-use Rattle.crystal_spec.specs.Crystals.{Site, Structure, Occupied, Keeps, position_after, moment_after}
+use Rattle.crystal_spec.specs.Crystals.{Atom, Structure, Occupied, Keeps, position_after, moment_after}
 use Rattle.crystal_spec.specs.Operations.{Operation, ListsAll, sign_factor}
 use Rattle.crystal_spec.proofs.Images.{keeps_by_images, occupied_itself}
 use Rattle.crystal_spec.proofs.Isometries.{sign_squared}
@@ -20,14 +20,14 @@ use Rattle.op_group.proofs.Composing.{composed_moment}
 use Rattle.site_orbits.specs.Orbits.{Carries, IsAlike, ListsSite}
 use Rattle.site_orbits.proofs.Equivalence.{carries_composed, carries_back}
 use Rattle.moment_space.specs.Projectors.{IsAllowed}
-use Rattle.moment_space.specs.Filled.{IsFilledSite, AreFilled, IsFilled, IsKeptBy}
-use Rattle.moment_space.specs.Carried.{IsCarriedMoment, IsReplaced, AreReplaced, HasReplaced}
+use Rattle.moment_space.specs.Filled.{IsFilledAtom, AreFilled, IsFilled, IsKeptBy}
+use Rattle.moment_space.specs.Replacements.{IsCarriedMoment, IsReplaced, AreReplaced, HasReplaced}
 use Rattle.moment_space.proofs.Replacing.{replaced_from, replaced_to}
 use Rattle.moment_space.proofs.Sites.{carried_alike}
 
 module _ (kind : MomentKind) (n : ℕ) (os : List Operation) (g : IsGroupModulo n os) (q m : Triple) (site : List Operation) (lists : ListsSite n os q site) (allowed : IsAllowed kind site m) where
-  filled_site : (a b : Site) → IsReplaced kind n os q m a b → IsFilledSite kind n os q m a b
-  filled_site a b r = record {
+  filled_atom : (a b : Atom) → IsReplaced kind n os q m a b → IsFilledAtom kind n os q m a b
+  filled_atom a b r = record {
     same_species = r.same_species;
     same_position = r.same_position;
     carried = λ o j f. carried o j f r.moment;
@@ -42,24 +42,24 @@ module _ (kind : MomentKind) (n : ℕ) (os : List Operation) (g : IsGroupModulo 
       others none (inl k) = absurd (none (record { operation = k.operation; of_list = k.of_list; carries = k.carries }))
       others none (inr k) = k.1
 
-  pub filled_sites : (olds bs : List Site) → AreReplaced kind n os q m olds bs → AreFilled kind n os q m olds bs
-  filled_sites [] [] h = tt
-  filled_sites [] (b ∷ bs) h = h
-  filled_sites (a ∷ olds) [] h = h
-  filled_sites (a ∷ olds) (b ∷ bs) h = (filled_site a b h.0, filled_sites olds bs h.1)
+  pub filled_atoms : (olds bs : List Atom) → AreReplaced kind n os q m olds bs → AreFilled kind n os q m olds bs
+  filled_atoms [] [] h = tt
+  filled_atoms [] (b ∷ bs) h = h
+  filled_atoms (a ∷ olds) [] h = h
+  filled_atoms (a ∷ olds) (b ∷ bs) h = (filled_atom a b h.0, filled_atoms olds bs h.1)
 
 -- the cell c with the atoms bs in place of its own
-module _ (c : Structure) (os : List Operation) (all : ListsAll c os) (g : IsGroupModulo c.n os) (q m : Triple) (site : List Operation) (lists : ListsSite c.n os q site) (allowed : IsAllowed c.kind site m) (bs : List Site) (replaced : AreReplaced c.kind c.n os q m c.sites bs) where
+module _ (c : Structure) (os : List Operation) (all : ListsAll c os) (g : IsGroupModulo c.n os) (q m : Triple) (site : List Operation) (lists : ListsSite c.n os q site) (allowed : IsAllowed c.kind site m) (bs : List Atom) (replaced : AreReplaced c.kind c.n os q m c.atoms bs) where
   abbrev filled : Structure
-  filled = record c { sites = bs }
+  filled = record c { atoms = bs }
 
   -- where o carries the atom a to a', it carries the moment at a to that at a'
-  moment_follows : (o : Operation) → IsMember o os → (a b a' b' : Site) → Carries c.n o a.position a'.position → a'.moment ≡ moment_after c.kind o.matrix (sign_factor o.sign) a.moment → IsReplaced c.kind c.n os q m a b → IsReplaced c.kind c.n os q m a' b' →
+  moment_follows : (o : Operation) → IsMember o os → (a b a' b' : Atom) → Carries c.n o a.position a'.position → a'.moment ≡ moment_after c.kind o.matrix (sign_factor o.sign) a.moment → IsReplaced c.kind c.n os q m a b → IsReplaced c.kind c.n os q m a' b' →
       b'.moment ≡ moment_after c.kind o.matrix (sign_factor o.sign) b.moment
   moment_follows o j a b a' b' f e r r' = by r.moment
     where
-      at_image : IsFilledSite c.kind c.n os q m a' b'
-      at_image = filled_site c.kind c.n os g q m site lists allowed a' b' r'
+      at_image : IsFilledAtom c.kind c.n os q m a' b'
+      at_image = filled_atom c.kind c.n os g q m site lists allowed a' b' r'
 
       -- what carries q to a', and what undoes o, carries it to a
       back : IsAlike c.n os q a'.position → IsAlike c.n os q a.position
@@ -78,24 +78,24 @@ module _ (c : Structure) (os : List Operation) (all : ListsAll c os) (g : IsGrou
   pub filled_kept : IsCellWithinLimits filled → (o : Operation) → IsMember o os → Keeps filled o.matrix o.translation (sign_factor o.sign)
   filled_kept form o j = keeps_by_images filled o.matrix o.translation (sign_factor o.sign) (apart_cell filled form) form.positive (sign_squared o.sign) ((all.exact o).0 j).keeps.metric images
     where
-      images : (b : Site) → IsMember b bs → Occupied filled b.species (position_after o.matrix o.translation b.position) (moment_after c.kind o.matrix (sign_factor o.sign) b.moment)
+      images : (b : Atom) → IsMember b bs → Occupied filled b.species (position_after o.matrix o.translation b.position) (moment_after c.kind o.matrix (sign_factor o.sign) b.moment)
       images b k =
-          let from = replaced_from c.kind c.n os q m c.sites bs replaced b k in
-          let a = from.site in
+          let from = replaced_from c.kind c.n os q m c.atoms bs replaced b k in
+          let a = from.atom in
           let image = (((all.exact o).0 j).keeps.crystal a.species a.position a.moment).0 (occupied_itself c a from.of_list) in
-          let to = replaced_to c.kind c.n os q m c.sites bs replaced image.site image.of_cell in
+          let to = replaced_to c.kind c.n os q m c.atoms bs replaced image.atom image.of_cell in
           record {
-            site = to.site;
+            atom = to.atom;
             of_cell = to.of_list;
             same_species = to.replaced.same_species ∙ image.same_species ∙ sym from.replaced.same_species;
-            same_moment = moment_follows o j a b image.site to.site (record { cells = image.cells; is = image.same_position }) image.same_moment from.replaced to.replaced;
+            same_moment = moment_follows o j a b image.atom to.atom (record { cells = image.cells; is = image.same_position }) image.same_moment from.replaced to.replaced;
             cells = image.cells;
             same_position = ap (position_after o.matrix o.translation) from.replaced.same_position ∙ image.same_position ∙ ap (λ (p : Triple). sum_of p (multiple (pos c.n) image.cells)) (sym to.replaced.same_position);
           }
 
-module _ (c : Structure) (os : List Operation) (all : ListsAll c os) (g : IsGroupModulo c.n os) (q m : Triple) (site : List Operation) (lists : ListsSite c.n os q site) (allowed : IsAllowed c.kind site m) (f : Structure) (replaced : HasReplaced c.kind c.n os q m c.sites c f) where
+module _ (c : Structure) (os : List Operation) (all : ListsAll c os) (g : IsGroupModulo c.n os) (q m : Triple) (site : List Operation) (lists : ListsSite c.n os q site) (allowed : IsAllowed c.kind site m) (f : Structure) (replaced : HasReplaced c.kind c.n os q m c.atoms c f) where
   pub is_filled : IsFilled c os q m f
-  is_filled = record { sites = filled_sites c.kind c.n os g q m site lists allowed c.sites f.sites replaced.sites; rest = replaced.rest }
+  is_filled = record { atoms = filled_atoms c.kind c.n os g q m site lists allowed c.atoms f.atoms replaced.atoms; rest = replaced.rest }
 
   pub is_kept : IsCellWithinLimits f → IsKeptBy os f
-  is_kept form = subst (IsKeptBy os) (sym replaced.rest) (filled_kept c os all g q m site lists allowed f.sites replaced.sites (subst (λ (s : Structure). IsCellWithinLimits s) replaced.rest form))
+  is_kept form = subst (IsKeptBy os) (sym replaced.rest) (filled_kept c os all g q m site lists allowed f.atoms replaced.atoms (subst (λ (s : Structure). IsCellWithinLimits s) replaced.rest form))

@@ -12,7 +12,7 @@ use Rattle.crystal_spec.specs.declared.Sign.{Sign}
 use Rattle.crystal_spec.specs.declared.Sign.TheVariants.{Same, Reversed}
 use Rattle.crystal_spec.specs.Matrices.{Triple, Matrix, image, difference}
 use Rattle.crystal_spec.specs.Moments.{turn_matrix}
-use Rattle.crystal_spec.specs.Crystals.{Site, Structure, position_after, moment_after}
+use Rattle.crystal_spec.specs.Crystals.{Atom, Structure, position_after, moment_after}
 use Rattle.crystal_spec.specs.Operations.{Operation, ListsAll, compare_of, sign_factor}
 use Rattle.crystal_spec.specs.Cells.{DiffersByCells, HasOneAtomEach}
 use Rattle.crystal_spec.proofs.Entrywise.{matrix_same}
@@ -25,12 +25,12 @@ use Rattle.basis_spec.proofs.PrimitiveCell.{differs_sym, differs_trans}
 use Rattle.basis_spec.proofs.PureTranslations.{translations_same}
 use Rattle.op_group.specs.Composition.{identity_operation}
 use Rattle.op_group.specs.Groups.{IsGroupModulo}
-use Rattle.op_group.specs.Lists.{AllWithinCell}
+use Rattle.op_group.specs.Lists.{AllWithinCell, HasEntriesAtMost}
 use Rattle.op_group.proofs.Composing.{composed_moment}
 use Rattle.site_orbits.specs.Orbits.{Carries, ListsSite}
 use Rattle.site_orbits.proofs.Equivalence.{carries_composed, identity_carries, carries_back}
-use Rattle.moment_space.specs.Projectors.{IsAllowed, HaveSmallMatrices}
-use Rattle.moment_space.proofs.Carrying.{own_translation}
+use Rattle.moment_space.specs.Projectors.{IsAllowed}
+use Rattle.moment_space.proofs.CarriedMoments.{own_translation}
 
 module _ (n : ℕ) (os : List Operation) (q : Triple) (site : List Operation) (lists : ListsSite n os q site) where
   -- the operations of a group that carry a position to itself are a group
@@ -152,7 +152,7 @@ fixed_translations n q a b e h k =
     differs_trans (differs_sym (own_translation n a q q h)) (subst (λ (w : Matrix). DiffersByCells n (difference q (image w q)) b.translation) (sym e) (own_translation n b q q k))
 
 -- at most one operation a matrix and time sign, so at most 2 · 3⁹
-pub site_few : (n : ℕ) (os : List Operation) (q : Triple) (site : List Operation) → ListsSite n os q site → AllWithinCell n os → HaveSmallMatrices os → length site ≤ 40000
+pub site_few : (n : ℕ) (os : List Operation) (q : Triple) (site : List Operation) → ListsSite n os q site → AllWithinCell n os → HasEntriesAtMost 1 os → length site ≤ 40000
 site_few n os q site lists within small =
     let few = few_by_numbers number 39366 site (increasing_distinct compare_of compare_total site lists.increasing)
     (λ o m. number_small o (small o ((lists.exact o).0 m).0)) one in
@@ -167,15 +167,15 @@ site_few n os q site lists within small =
         λ i. record { matrix = s.matrix i; translation = t i; sign = s.sign i }
 
 -- ---- the moment of an atom is allowed
-pub own_moment : (c b : Structure) (r : Matrix) (os site : List Operation) → SameCrystal c b r → HasOneAtomEach b → ListsAll b os → (i : ℕ) (a : Site) → slice_get c.sites i ≡ Some a → ListsSite b.n os (image r a.position) site →
+pub own_moment : (c b : Structure) (r : Matrix) (os site : List Operation) → SameCrystal c b r → HasOneAtomEach b → ListsAll b os → (i : ℕ) (a : Atom) → slice_get c.atoms i ≡ Some a → ListsSite b.n os (image r a.position) site →
     IsAllowed c.kind site (image (turn_matrix c.kind r) a.moment)
 own_moment c b r os site same one all i a at lists o m =
     let fixed = (lists.exact o).0 m in
     let q = image r a.position in
     let v = image (turn_matrix c.kind r) a.moment in
-    let from = (same.crystal a.species a.position a.moment).0 (occupied_itself c a (member_at c.sites i a at)) in
+    let from = (same.crystal a.species a.position a.moment).0 (occupied_itself c a (member_at c.atoms i a at)) in
     let to = (((all.exact o).0 fixed.0).keeps.crystal a.species q v).0 from in
-    let there : DiffersByCells b.n (position_after o.matrix o.translation q) to.site.position = record { cells = to.cells; is = to.same_position } in
-    let here : DiffersByCells b.n q from.site.position = record { cells = from.cells; is = from.same_position } in
-    let is : to.site ≡ from.site = one to.site from.site to.of_cell from.of_cell (differs_trans (differs_sym there) (differs_trans fixed.1 here)) in
-    ap (λ (k : MomentKind). moment_after k o.matrix (sign_factor o.sign) v) (sym same.kind) ∙ sym to.same_moment ∙ ap (λ (x : Site). x.moment) is ∙ from.same_moment
+    let there : DiffersByCells b.n (position_after o.matrix o.translation q) to.atom.position = record { cells = to.cells; is = to.same_position } in
+    let here : DiffersByCells b.n q from.atom.position = record { cells = from.cells; is = from.same_position } in
+    let is : to.atom ≡ from.atom = one to.atom from.atom to.of_cell from.of_cell (differs_trans (differs_sym there) (differs_trans fixed.1 here)) in
+    ap (λ (k : MomentKind). moment_after k o.matrix (sign_factor o.sign) v) (sym same.kind) ∙ sym to.same_moment ∙ ap (λ (x : Atom). x.moment) is ∙ from.same_moment

@@ -9,7 +9,6 @@
 --   IsProjected p m         p leaves the moment m as it is
 --   IsAllowedCount kind p k k is the trace of p for vectors, and a third of it for scalars
 --   AllowedMoments          a kind of moments, a projector, and the number of independent moments that it leaves
---   HaveSmallMatrices os    the matrices of the operations have entries -1, 0 and 1
 --   HasSmallParts p         numerators and denominators are of size up to 40,000, and denominators positive
 -- The projector onto the moments that a site-symmetry group allows is the mean of its matrices; our own words.
 use Rattle.std.specs.Prelude.{◌≡◌, ℕ, pos, ◌*◌, ◌<ℤ◌, if◌then◌else◌, List, [], ◌∷◌, length}
@@ -25,7 +24,6 @@ use Rattle.crystal_spec.specs.Matrices.{Triple, Matrix}
 use Rattle.crystal_spec.specs.Moments.{moment_matrix}
 use Rattle.crystal_spec.specs.Crystals.{moment_after}
 use Rattle.crystal_spec.specs.Operations.{Operation, sign_factor}
-use Rattle.matrix3.specs.Bounds.{EntriesAtMost}
 
 -- each operation of the list carries the moment to itself
 abbrev pub IsAllowed : MomentKind → List Operation → Triple → Type 0
@@ -72,10 +70,6 @@ pub record AllowedMoments : Type 0 where
   pub kind : MomentKind
   pub projector : Mat3 Fraction
   pub count : ℕ
-
--- entries -1, 0 and 1
-abbrev pub HaveSmallMatrices : List Operation → Type 0
-HaveSmallMatrices os = (o : Operation) → IsMember o os → EntriesAtMost 1 o.matrix
 
 -- a fraction with a numerator and a positive denominator of size up to 40,000
 pub record HasSmallParts (p : Fraction) : Type 0 where

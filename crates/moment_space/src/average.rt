@@ -10,7 +10,8 @@ ghost use Rattle.crystal_spec.specs.Matrices.{Triple, determinant};
 ghost use Rattle.matrix3.specs.Bounds.{EntriesAtMost};
 ghost use Rattle.op_group.specs.Views.{operation_of};
 ghost use Rattle.op_group.specs.Groups.{IsGroupModulo};
-ghost use Rattle.moment_space.specs.Projectors.{IsAllowed, HaveSmallMatrices, HasSmallParts, IsProjected, IsAllowedCount, matrix_of, moment_sum as sum_of_matrices, projector_of};
+ghost use Rattle.moment_space.specs.Projectors.{IsAllowed, HasSmallParts, IsProjected, IsAllowedCount, matrix_of, moment_sum as sum_of_matrices, projector_of};
+ghost use Rattle.op_group.specs.Lists.{HasEntriesAtMost};
 ghost use Rattle.moment_space.specs.Counted.{counted_part, IsCounted};
 
 use crate::allowed::Allowed;
@@ -73,7 +74,7 @@ fn matrix_of(kind: MomentKind, op: &Op) -> Mat3<Int>
 fn moment_sum(site: &OpList, kind: MomentKind) -> Mat3<Int>
     requires group { IsGroupModulo site.now.n site.now.operations }
     requires few { length site.now.operations ≤ 40000 }
-    requires small { HaveSmallMatrices site.now.operations }
+    requires small { HasEntriesAtMost 1 site.now.operations }
     ensures value { result ≡ sum_of_matrices kind site.now.operations }
     ensures size { EntriesAtMost 40000 result }
 {
@@ -164,7 +165,7 @@ fn allowed_count(sum: &Mat3<Int>, kind: MomentKind, count: u32) -> u32
 pub fn projector(site: &OpList, kind: MomentKind) -> Allowed
     requires group { IsGroupModulo site.now.n site.now.operations }
     requires few { length site.now.operations ≤ 40000 }
-    requires small { HaveSmallMatrices site.now.operations }
+    requires small { HasEntriesAtMost 1 site.now.operations }
     ensures kind { result.kind ≡ kind }
     ensures value { result.projector ≡ projector_of kind site.now.operations }
     ensures count { IsAllowedCount kind result.projector result.count }

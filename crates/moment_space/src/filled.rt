@@ -6,16 +6,17 @@ ghost use Rattle.crystal_spec.specs.Matrices.{determinant};
 ghost use Rattle.crystal_spec.specs.Moments.{IsOfKind};
 ghost use Rattle.crystal_spec.specs.Crystals.{moment_after};
 ghost use Rattle.crystal_spec.specs.Operations.{ListsAll, IsWithinCell, sign_factor};
-ghost use Rattle.crystal.specs.Views.{site_of};
+ghost use Rattle.crystal.specs.Views.{atom_of};
 ghost use Rattle.positions.specs.Positions.{triple_of};
 ghost use Rattle.matrix3.specs.Bounds.{EntriesAtMost, CoordinatesAtMost};
-ghost use Rattle.crystal.specs.Cells.{IsSiteOf};
+ghost use Rattle.crystal.specs.Cells.{IsCellAtom};
 ghost use Rattle.basis_spec.specs.Bases.{cell_in_basis, IsPrimitiveIn};
 ghost use Rattle.op_group.specs.Views.{operation_of};
 ghost use Rattle.site_orbits.specs.Orbits.{Carries, IsAlike};
-ghost use Rattle.moment_space.specs.Projectors.{IsAllowed, HaveSmallMatrices};
+ghost use Rattle.moment_space.specs.Projectors.{IsAllowed};
+ghost use Rattle.op_group.specs.Lists.{HasEntriesAtMost};
 ghost use Rattle.moment_space.specs.Filled.{IsSiteAt, IsFilledAt, HasOneMomentAt, AllowsOwnMoment, IsKeptBy};
-ghost use Rattle.moment_space.specs.Carried.{HasUnitDeterminants, IsCarriedMoment, ReplacesAt, AreReplaced, HasReplaced, started};
+ghost use Rattle.moment_space.specs.Replacements.{HasUnitDeterminants, IsCarriedMoment, ReplacesAt, AreReplaced, HasReplaced, started};
 
 use crate::average::projector;
 use crystal::{Atom, Cell, MOST_NAMES, MomentKind, moment_matrix};
@@ -66,7 +67,7 @@ fn carried_moment(
     m: &Vec3<Int>,
     onto: [u32; 3],
 ) -> Option<Vec3<Int>>
-    requires small { HaveSmallMatrices list.now.operations }
+    requires small { HasEntriesAtMost 1 list.now.operations }
     requires units { HasUnitDeterminants list.now.operations }
     requires at_least { 1 ≤ list.now.n }
     requires at_most { list.now.n ≤ 10 ^ 6 }
@@ -88,15 +89,15 @@ fn carried_moment(
 /// The atom number i of the cell, with the moment to which the first operation of the list that carries the position to that of
 /// the atom carries a moment. Where no operation does so, the atom keeps its own.
 fn replaced(cell: &Cell, i: usize, list: &OpList, from: [u32; 3], m: &Vec3<Int>) -> Atom
-    requires below { i < length cell.now.sites }
-    requires small { HaveSmallMatrices list.now.operations }
+    requires below { i < length cell.now.atoms }
+    requires small { HasEntriesAtMost 1 list.now.operations }
     requires units { HasUnitDeterminants list.now.operations }
     requires at_least { 1 ≤ list.now.n }
     requires at_most { list.now.n ≤ 10 ^ 6 }
     requires moment { CoordinatesAtMost (10 ^ 15) m.now }
     requires of_kind { IsOfKind cell.now.kind m.now }
-    ensures value { ReplacesAt cell.now.kind list.now.n list.now.operations (triple_of from) m.now cell.now.sites i (site_of result) }
-    ensures site { IsSiteOf (length cell.now.names) cell.now.n cell.now.kind (site_of result) }
+    ensures value { ReplacesAt cell.now.kind list.now.n list.now.operations (triple_of from) m.now cell.now.atoms i (atom_of result) }
+    ensures atom { IsCellAtom (length cell.now.names) cell.now.n cell.now.kind (atom_of result) }
 {
     let atom = cell.atom(i);
     match carried_moment(list, cell.kind(), from, m, atom.place) {
@@ -114,10 +115,10 @@ fn replaced(cell: &Cell, i: usize, list: &OpList, from: [u32; 3], m: &Vec3<Int>)
 /// Refuses for want of memory alone.
 fn started(alloc: Global, cell: &Cell, first: Atom) -> Result<Cell, AllocError>
     requires species { first.species ≡ 0 }
-    requires site { IsSiteOf (length cell.now.names) cell.now.n cell.now.kind (site_of first) }
-    ensures { IfOk result (λ made. made ≡ started cell.now (site_of first)) }
+    requires atom { IsCellAtom (length cell.now.names) cell.now.n cell.now.kind (atom_of first) }
+    ensures { IfOk result (λ made. made ≡ started cell.now (atom_of first)) }
 {
-    let _form = cell.count();
+    cell.invariant();
     let name = cell.name(0).copied();
     let made = Cell::build(
         alloc,
@@ -142,7 +143,7 @@ fn add_atoms(
     from: [u32; 3],
     m: &Vec3<Int>,
 ) -> Result<(), AllocError>
-    requires small { HaveSmallMatrices list.now.operations }
+    requires small { HasEntriesAtMost 1 list.now.operations }
     requires units { HasUnitDeterminants list.now.operations }
     requires at_least { 1 ≤ list.now.n }
     requires at_most { list.now.n ≤ 10 ^ 6 }
@@ -151,8 +152,8 @@ fn add_atoms(
     requires n { made.old.n ≡ cell.now.n }
     requires kind { made.old.kind ≡ cell.now.kind }
     requires names { made.old.names ≡ cell.now.names }
-    requires first { AreReplaced cell.now.kind list.now.n list.now.operations (triple_of from) m.now (take 1 cell.now.sites) made.old.sites }
-    ensures { OnOk result (HasReplaced cell.now.kind list.now.n list.now.operations (triple_of from) m.now cell.now.sites made.old made.new) }
+    requires first { AreReplaced cell.now.kind list.now.n list.now.operations (triple_of from) m.now (take 1 cell.now.atoms) made.old.atoms }
+    ensures { OnOk result (HasReplaced cell.now.kind list.now.n list.now.operations (triple_of from) m.now cell.now.atoms made.old made.new) }
 {
     for i in 1..cell.count() {
         made.add(replaced(cell, i, list, from, m))?;
@@ -171,15 +172,15 @@ fn filled(
     from: [u32; 3],
     m: &Vec3<Int>,
 ) -> Result<Cell, AllocError>
-    requires small { HaveSmallMatrices list.now.operations }
+    requires small { HasEntriesAtMost 1 list.now.operations }
     requires units { HasUnitDeterminants list.now.operations }
     requires at_least { 1 ≤ list.now.n }
     requires at_most { list.now.n ≤ 10 ^ 6 }
     requires moment { CoordinatesAtMost (10 ^ 15) m.now }
     requires of_kind { IsOfKind cell.now.kind m.now }
-    ensures { IfOk result (HasReplaced cell.now.kind list.now.n list.now.operations (triple_of from) m.now cell.now.sites cell.now) }
+    ensures { IfOk result (HasReplaced cell.now.kind list.now.n list.now.operations (triple_of from) m.now cell.now.atoms cell.now) }
 {
-    let _form = cell.count();
+    cell.invariant();
     let first = replaced(cell, 0, list, from, m);
     let mut made = started(alloc, cell, first)?;
     made.add_names_of(cell)?;
@@ -207,7 +208,7 @@ pub fn fill(
     requires same_cell { cell_in_basis cell.now prim.now.back ≡ prim.now.cell }
     requires n { list.now.n ≡ prim.now.cell.n }
     requires group { ListsAll prim.now.cell list.now.operations }
-    requires below { atom < length cell.now.sites }
+    requires below { atom < length cell.now.atoms }
     requires site_n { site.now.n ≡ prim.now.cell.n }
     requires site { IsSiteAt cell.now prim.now.back prim.now.cell list.now.operations atom site.now.operations }
     requires size { CoordinatesAtMost (10 ^ 15) m.now }
@@ -218,15 +219,15 @@ pub fn fill(
     ensures one_moment { HasOneMomentAt cell.now prim.now.back prim.now.cell list.now.operations atom site.now.operations }
     ensures own_moment { AllowsOwnMoment cell.now prim.now.back atom site.now.operations }
 {
-    let _index = prim.index();
-    let _count = cell.count();
-    let _form = prim.cell().count();
-    let _within = list.count();
+    prim.invariant();
+    cell.invariant();
+    prim.cell().invariant();
+    list.invariant();
     if !projector(site, cell.kind()).allows(m) {
         return Ok(None);
     }
     let place = MatrixModulo::new(prim.back(), cell.n()).image(cell.atom(atom).place);
     let made = filled(alloc, prim.cell(), list, place, m)?;
-    let _made = made.count();
+    made.invariant();
     Ok(Some(made))
 }

@@ -7,7 +7,7 @@ use Rattle.numbers.specs.Gcd.{gcd}
 use Rattle.crystal_spec.specs.declared.Sign.TheVariants.{Same}
 use Rattle.crystal_spec.specs.Matrices.{Matrix, identity}
 use Rattle.crystal_spec.specs.Moments.{axial_vectors, axial_factor, turn_matrix, moment_matrix}
-use Rattle.crystal_spec.specs.Crystals.{Site, Structure}
+use Rattle.crystal_spec.specs.Crystals.{Atom, Structure}
 use Rattle.crystal_spec.specs.Operations.{Operation}
 use Rattle.site_orbits.specs.Entries.{AtomOrbit}
 use Rattle.plain_text.specs.NumberText.{number_text}
@@ -23,8 +23,8 @@ abbrev diagonal : ℤ → ℤ → ℤ → Matrix
 diagonal a b c = record { a11 = a; a12 = pos 0; a13 = pos 0; a21 = pos 0; a22 = b; a23 = pos 0; a31 = pos 0; a32 = pos 0; a33 = c }
 
 -- an atom at 0 0 z / 2 with its moment along c
-abbrev site : ℤ → ℤ → Site
-site z moment = record { species = 0; position = record { x = pos 0; y = pos 0; z = z }; moment = record { x = pos 0; y = pos 0; z = moment } }
+abbrev atom_along_c : ℤ → ℤ → Atom
+atom_along_c z moment = record { species = 0; position = record { x = pos 0; y = pos 0; z = z }; moment = record { x = pos 0; y = pos 0; z = moment } }
 
 -- opposite moments of size 3, one behind the other
 abbrev chain : Structure
@@ -35,7 +35,7 @@ chain = record {
   n = 2;
   k = 1;
   kind = axial_vectors;
-  sites = site (pos 0) (pos 3) ∷ site (pos 1) (negsuc 2) ∷ [];
+  atoms = atom_along_c (pos 0) (pos 3) ∷ atom_along_c (pos 1) (negsuc 2) ∷ [];
 }
 
 -- the orbit of an atom alone, of which this operation and the identity leave the position
@@ -53,7 +53,7 @@ unfolding atom_text moment_matrix axial_factor turn_matrix lowest number_text di
 text_of_moments = refl
 
 -- a scalar stands three times on the diagonal, and is counted once
-text_of_scalars : moments_text identity (record chain { kind = record { vector = false; axial = false }; sites = site (pos 0) (pos 3) ∷ [] }) (orbit (diagonal (negsuc 0) (negsuc 0) (pos 1)) ∷ [])
+text_of_scalars : moments_text identity (record chain { kind = record { vector = false; axial = false }; atoms = atom_along_c (pos 0) (pos 3) ∷ [] }) (orbit (diagonal (negsuc 0) (negsuc 0) (pos 1)) ∷ [])
     ≡ codes "back 1 0 0 0 1 0 0 0 1\natom 1 A allowed 1 1 0 0 0 1 0 0 0 1\n"
 unfolding atom_text moment_matrix axial_factor turn_matrix lowest number_text digits gcd
 text_of_scalars = refl

@@ -1,4 +1,4 @@
--- The text of the moments that the sites of a cell allow. The first line is `back` with the nine entries of Q of its primitive
+-- The text of the moments that the atoms of a cell allow. The first line is `back` with the nine entries of Q of its primitive
 -- cell row by row. Then comes one line an atom in order: `atom`, its number from 1, its name, `allowed`, the allowed count and
 -- the nine entries of the projector row by row. Each line has LF at its end, and single spaces.
 --   allowed_count kind p         the allowed count of a projector
@@ -7,9 +7,9 @@
 --   allowed_text a               the end of the line of an atom, from `allowed` on
 --   name_text i name             its beginning
 --   atom_text i name a           the line of the atom number i
---   atom_lines kind names i sites orbits   the lines of these atoms, the first of which is number i
+--   atom_lines kind names i atoms orbits   the lines of these atoms, the first of which is number i
 --   moments_text q c orbits      the whole text
---   AreOrbits c r b orbits       orbits are those of the atoms of c under all operations of b, R taking coordinates of c to those in b
+--   AreOrbits c r b orbits       orbits are those of the atoms of c under all operations of b, r taking coordinates of c to those in b
 -- The format is our own.
 use Rattle.std.specs.Prelude.{◌≡◌, ℕ, ◌+◌, ◌/◌, List, [], ◌∷◌, ◌++◌, length, codes, get_or, unsigned_abs}
 use Rattle.std.specs.Fmt.{decimal}
@@ -17,7 +17,7 @@ use Rattle.numbers.specs.Fraction.{Fraction, fraction_ops}
 use Rattle.matrix3.specs.declared.matrix.Mat3.{Mat3}
 use Rattle.crystal_spec.specs.declared.MomentKind.{MomentKind}
 use Rattle.crystal_spec.specs.Matrices.{Matrix}
-use Rattle.crystal_spec.specs.Crystals.{Site, Structure}
+use Rattle.crystal_spec.specs.Crystals.{Atom, Structure}
 use Rattle.crystal_spec.specs.Operations.{Operation, ListsAll}
 use Rattle.site_orbits.specs.Entries.{AtomOrbit, HaveOrbits}
 use Rattle.moment_space.specs.Projectors.{AllowedMoments, projector_of, trace, times_on_diagonal}
@@ -57,18 +57,18 @@ unfoldable pub atom_text : ℕ → List ℕ → AllowedMoments → List ℕ
 atom_text i name a = name_text i name ++ allowed_text a
 
 -- one line an atom
-abbrev pub atom_lines : MomentKind → List (List ℕ) → ℕ → List Site → List AtomOrbit → List ℕ
+abbrev pub atom_lines : MomentKind → List (List ℕ) → ℕ → List Atom → List AtomOrbit → List ℕ
 atom_lines kind names i [] orbits = []
-atom_lines kind names i (a ∷ sites) [] = []
-atom_lines kind names i (a ∷ sites) (o ∷ orbits) = atom_text i (get_or names a.species []) (allowed_by kind o.site.operations) ++ atom_lines kind names (i + 1) sites orbits
+atom_lines kind names i (a ∷ atoms) [] = []
+atom_lines kind names i (a ∷ atoms) (o ∷ orbits) = atom_text i (get_or names a.species []) (allowed_by kind o.site.operations) ++ atom_lines kind names (i + 1) atoms orbits
 
 -- Q of the primitive cell, and the lines of the atoms
 abbrev pub moments_text : Matrix → Structure → List AtomOrbit → List ℕ
-moments_text q c orbits = codes "back" ++ entries_text q ++ 10 ∷ atom_lines c.kind c.names 1 c.sites orbits
+moments_text q c orbits = codes "back" ++ entries_text q ++ 10 ∷ atom_lines c.kind c.names 1 c.atoms orbits
 
 -- the orbits under all operations of b, one an atom
 pub record AreOrbits (c : Structure) (r : Matrix) (b : Structure) (orbits : List AtomOrbit) : Type 0 where
   pub operations : List Operation
   pub all : ListsAll b operations
-  pub of_each_atom : length orbits ≡ length c.sites
+  pub of_each_atom : length orbits ≡ length c.atoms
   pub are_orbits : HaveOrbits c r b operations orbits

@@ -22,6 +22,6 @@ pub fn fill_report(alloc: Global, back: &Mat3<Int>, cell: &Cell) -> Result<Bytes
     out.append(b"# back")?;
     push_entries(alloc, &mut out, back)?;
     out.push(b'\n')?;
-    push_cell(alloc, &mut out, cell)?;
+    push_cell(&mut out, cell)?;
     Ok(out)
 }

@@ -1,4 +1,4 @@
-//! The texts of the moments that the sites of a cell allow, and of filled cells.
+//! The texts of the moments that the atoms of a cell allow, and of filled cells.
 //!
 //! `moments_report` gives one line with Q of the primitive cell, then a line an atom: its number from 1, its name, the allowed
 //! count and the nine entries of the projector onto the moments that its site allows. `fill_report` gives the cell file of a

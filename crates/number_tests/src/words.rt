@@ -60,9 +60,9 @@ fn is_printed(alloc: Global, row: &Printed) -> Result<bool, AllocError> {
         return Ok(false);
     }
     let mut out = Bytes::new(alloc);
-    push_decimal(alloc, &mut out, 7)?;
-    push_number(alloc, &mut out, *z, *d)?;
-    push_numbers(alloc, &mut out, &[*z], *d)?;
+    push_decimal(&mut out, 7)?;
+    push_number(&mut out, *z, *d)?;
+    push_numbers(&mut out, &[*z], *d)?;
     Ok(out.as_slice() == *wanted)
 }
 

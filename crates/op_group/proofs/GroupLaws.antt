@@ -98,12 +98,12 @@ take_cells p k n =
 
 farther : (c : Structure) (s : ℕ) (p k m : Triple) → Occupied c s p m → Occupied c s (sum_of p (multiple (pos c.n) k)) m
 farther c s p k m o = record {
-  site = o.site;
+  atom = o.atom;
   of_cell = o.of_cell;
   same_species = o.same_species;
   same_moment = o.same_moment;
   cells = sum_of o.cells k;
-  same_position = ap (λ (v : Triple). sum_of v (multiple (pos c.n) k)) o.same_position ∙ two_cells o.site.position o.cells k (pos c.n);
+  same_position = ap (λ (v : Triple). sum_of v (multiple (pos c.n) k)) o.same_position ∙ two_cells o.atom.position o.cells k (pos c.n);
 }
 
 nearer : (c : Structure) (s : ℕ) (p k m : Triple) → Occupied c s (sum_of p (multiple (pos c.n) k)) m → Occupied c s p m

@@ -1,5 +1,5 @@
 pub mod OrderLemmas
-pub mod Places
+pub mod OperationPlaces
 mod Sorting
 pub mod Composing
 pub mod GroupLaws

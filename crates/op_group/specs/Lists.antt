@@ -3,8 +3,12 @@
 --   AllWithinCell n os           the translation parts are from 0 to n - 1
 --   IsOperationList n os         they are, and the operations are strictly increasing
 --   HasOnlyPureTranslations os   each operation is (I, t, +1)
-use Rattle.std.specs.Prelude.{◌≡◌, ℕ, List}
+--   HasEntriesAtMost k os        the entries of the matrices have at most the size k
+--   HasFewMatrices k os          the matrices are among k matrices
+use Rattle.std.specs.Prelude.{◌≡◌, ◌≤◌, ℕ, List, length}
 use Rattle.lists.specs.Increasing.{IsIncreasing, IsMember}
+use Rattle.matrix3.specs.Bounds.{EntriesAtMost}
+use Rattle.crystal_spec.specs.Matrices.{Matrix}
 use Rattle.crystal_spec.specs.Operations.{Operation, compare_of, IsWithinCell}
 use Rattle.basis_spec.specs.Translations.{pure_translation}
 
@@ -25,3 +29,13 @@ pub record IsOperationList (n : ℕ) (os : List Operation) : Type 0 where
 -- each operation of the list is (I, t, +1)
 abbrev pub HasOnlyPureTranslations : List Operation → Type 0
 HasOnlyPureTranslations os = (o : Operation) → IsMember o os → o ≡ pure_translation o.translation
+
+-- the entries of each matrix have at most this size
+abbrev pub HasEntriesAtMost : ℕ → List Operation → Type 0
+HasEntriesAtMost k os = (o : Operation) → IsMember o os → EntriesAtMost k o.matrix
+
+-- the matrices of the operations are among k matrices
+pub record HasFewMatrices (k : ℕ) (os : List Operation) : Type 0 where
+  pub matrices : List Matrix
+  pub all : (o : Operation) → IsMember o os → IsMember o.matrix matrices
+  pub few : length matrices ≤ k

@@ -51,18 +51,19 @@ impl OpList {
         }
     }
 
-    /// The list of these operations, in whatever order they come, each once. It takes no memory.
+    /// The list of these operations, in whatever order they come, each once.
     ///
-    /// Their translation parts are below n.
-    pub fn sorted(n: u32, ops: Vec<Op>) -> OpList
+    /// Their translation parts are below n. Runs of them that are in order are merged as they are. Refuses for want of memory
+    /// alone.
+    pub fn sorted(n: u32, ops: Vec<Op>) -> Result<OpList, AllocError>
         requires below_n { AllWithinCell n (map operation_of ops.items) }
-        ensures n { result.n ≡ n }
-        ensures exact { (o : Operation) → IsMember o result.operations ↔ IsMember o (map operation_of ops.items) }
+        ensures n { IfOk result (λ list. list.n ≡ n) }
+        ensures exact { IfOk result (λ list. (o : Operation) → IsMember o list.operations ↔ IsMember o (map operation_of ops.items)) }
     {
         let mut items = ops;
-        items.sort_unstable_by(compare);
+        items.sort_by(compare)?;
         items.dedup_by(|next, last| compare(next, last).is_eq());
-        OpList { n, items }
+        Ok(OpList { n, items })
     }
 
     /// The n of the translation parts.
@@ -70,6 +71,14 @@ impl OpList {
         ensures { result ≡ self.now.n }
     {
         self.n
+    }
+
+    /// That the operations are in order, each once, with translation parts below n. It does nothing.
+    pub fn invariant(&self)
+        ensures ordered { IsIncreasing compare_of self.now.operations }
+        ensures within_cell { AllWithinCell self.now.n self.now.operations }
+    {
+        let _ = &self.items;
     }
 
     /// How many operations there are.

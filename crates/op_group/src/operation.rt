@@ -31,8 +31,6 @@ fn sign_rank(sign: Sign) -> u8
 pub fn compare(a: &Op, b: &Op) -> Ordering
     ensures { result ≡ compare_of (operation_of a.now) (operation_of b.now) }
 {
-    let a = *a;
-    let b = *b;
     a.w.cmp(&b.w)
         .then(a.shift.cmp(&b.shift))
         .then(sign_rank(a.sign).cmp(&sign_rank(b.sign)))

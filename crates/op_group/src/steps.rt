@@ -205,7 +205,7 @@ pub fn step_basis(list: &OpList) -> Steps3
     ensures back_entries { EachEntry (AtMost result.index) result.back }
     ensures fore_entries { EachEntry (AtMost result.index) result.fore }
 {
-    let _form = list.count();
+    list.invariant();
     let basis = triangular_basis(list);
     let back = inverse_times(list.n(), &basis);
     let fore = back.adjugate();

@@ -21,7 +21,6 @@ fn push_plus(out: &mut Bytes, is_first: bool) -> Result<(), AllocError>
 
 /// Adds the term of a coefficient and a letter.
 fn push_term(
-    alloc: Global,
     out: &mut Bytes,
     is_first: bool,
     coefficient: i128,
@@ -45,29 +44,23 @@ fn push_term(
             } else {
                 push_plus(out, is_first)?;
             }
-            push_decimal(alloc, out, coefficient.unsigned_abs())?;
+            push_decimal(out, coefficient.unsigned_abs())?;
             out.push(letter)
         }
     }
 }
 
 /// Adds the terms in x, y and z of these coefficients. Refuses for want of memory alone.
-pub fn push_terms(
-    alloc: Global,
-    out: &mut Bytes,
-    x: i128,
-    y: i128,
-    z: i128,
-) -> Result<(), AllocError>
+pub fn push_terms(out: &mut Bytes, x: i128, y: i128, z: i128) -> Result<(), AllocError>
     ensures { OnOk result (out.new ≡ out.old ++ terms_text x y z) }
 {
-    push_term(alloc, out, true, x, b'x')?;
-    push_term(alloc, out, x == 0, y, b'y')?;
-    push_term(alloc, out, x == 0 && y == 0, z, b'z')
+    push_term(out, true, x, b'x')?;
+    push_term(out, x == 0, y, b'y')?;
+    push_term(out, x == 0 && y == 0, z, b'z')
 }
 
 /// Adds the translation t/n in lowest terms, behind a plus, where it is not 0.
-fn push_fraction(alloc: Global, out: &mut Bytes, n: u32, t: u32) -> Result<(), AllocError>
+fn push_fraction(out: &mut Bytes, n: u32, t: u32) -> Result<(), AllocError>
     ensures { OnOk result (out.new ≡ out.old ++ fraction_text n t) }
 {
     if t == 0 {
@@ -75,25 +68,17 @@ fn push_fraction(alloc: Global, out: &mut Bytes, n: u32, t: u32) -> Result<(), A
     }
     let divisor = gcd(t, n);
     out.push(b'+')?;
-    push_decimal(alloc, out, (t / divisor) as u128)?;
+    push_decimal(out, (t / divisor) as u128)?;
     out.push(b'/')?;
-    push_decimal(alloc, out, (n / divisor) as u128)
+    push_decimal(out, (n / divisor) as u128)
 }
 
 /// Adds the part of a coordinate: the terms of a row of the matrix, and a translation of t/n.
-fn push_row(
-    alloc: Global,
-    out: &mut Bytes,
-    n: u32,
-    x: Int,
-    y: Int,
-    z: Int,
-    t: u32,
-) -> Result<(), AllocError>
+fn push_row(out: &mut Bytes, n: u32, x: Int, y: Int, z: Int, t: u32) -> Result<(), AllocError>
     ensures { OnOk result (out.new ≡ out.old ++ row_text n x y z (pos t)) }
 {
-    push_terms(alloc, out, x.get(), y.get(), z.get())?;
-    push_fraction(alloc, out, n, t)?;
+    push_terms(out, x.get(), y.get(), z.get())?;
+    push_fraction(out, n, t)?;
     Ok(())
 }
 
@@ -109,26 +94,26 @@ pub fn push_sign(out: &mut Bytes, sign: Sign) -> Result<(), AllocError>
 
 /// Adds the four parts of an operation, joined by commas, with the translation part in units of 1/n. Refuses for want of
 /// memory alone.
-pub fn push_parts(alloc: Global, out: &mut Bytes, n: u32, op: &Op) -> Result<(), AllocError>
+pub fn push_parts(out: &mut Bytes, n: u32, op: &Op) -> Result<(), AllocError>
     ensures { OnOk result (out.new ≡ out.old ++ parts_text n (operation_of op.now)) }
 {
     let w = op.w;
     let [x, y, z] = op.shift;
-    push_row(alloc, out, n, w.a11, w.a12, w.a13, x)?;
+    push_row(out, n, w.a11, w.a12, w.a13, x)?;
     out.push(b',')?;
-    push_row(alloc, out, n, w.a21, w.a22, w.a23, y)?;
+    push_row(out, n, w.a21, w.a22, w.a23, y)?;
     out.push(b',')?;
-    push_row(alloc, out, n, w.a31, w.a32, w.a33, z)?;
+    push_row(out, n, w.a31, w.a32, w.a33, z)?;
     out.push(b',')?;
     push_sign(out, op.sign)?;
     Ok(())
 }
 
 /// Adds the line of an operation.
-fn push_operation(alloc: Global, out: &mut Bytes, n: u32, op: &Op) -> Result<(), AllocError>
+fn push_operation(out: &mut Bytes, n: u32, op: &Op) -> Result<(), AllocError>
     ensures { OnOk result (out.new ≡ out.old ++ operation_text n (operation_of op.now)) }
 {
-    push_parts(alloc, out, n, op)?;
+    push_parts(out, n, op)?;
     out.push(b'\n')?;
     Ok(())
 }
@@ -148,7 +133,7 @@ pub fn ops_report(
     let n = list.n();
     let mut out = Bytes::new(alloc);
     for op in page(list.ops(), skip, take) {
-        push_operation(alloc, &mut out, n, op)?;
+        push_operation(&mut out, n, op)?;
     }
     Ok(out)
 }

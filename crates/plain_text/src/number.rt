@@ -1,6 +1,6 @@
 // Number words: reading, and what is asked of the numbers. A number in units of 1/d is an integer where d is a multiple of its
 // denominator.
-ghost use Rattle.std.specs.Prelude.{◌≡◌, ℕ, ◌<◌, ◌≤◌, ◌+◌, ◌^◌, ◌++◌, length, MatchOption, MatchResult, Some, None, true, false, ◌&&◌, ◌||◌, ◌*◌, ◌/◌, nat_lt, [], pos, unsigned_abs, ◌-ℤ◌};
+ghost use Rattle.std.specs.Prelude.{◌≡◌, ℕ, ◌<◌, ◌≤◌, ◌+◌, ◌%◌, ◌==◌, ◌^◌, ◌++◌, length, MatchOption, MatchResult, Some, None, true, false, ◌&&◌, ◌||◌, ◌*◌, ◌/◌, nat_lt, [], pos, unsigned_abs, ◌-ℤ◌};
 ghost use Rattle.ring.specs.Size.{AtMost};
 ghost use Rattle.numbers.specs.Gcd.{gcd, lcm};
 ghost use Rattle.numbers.specs.Fraction.{fraction, lowest};
@@ -221,6 +221,17 @@ fn apart(negative: bool, a: u128, other: bool, b: u128) -> u128
     a - b
 }
 
+/// Whether the one number is a multiple of the other. A number below it is so only where it is 0, and needs no division.
+fn is_multiple_of(a: u128, unit: u128) -> bool
+    requires { 1 ≤ unit }
+    ensures { result ≡ (a % unit == 0) }
+{
+    if a < unit {
+        return a == 0;
+    }
+    a % unit == 0
+}
+
 /// Whether the difference of the two is whole.
 pub fn is_same_modulo_1(f: &NumberWord, g: &NumberWord) -> bool
     ensures { result ≡ is_same_modulo_1 (fraction_of f.now) (fraction_of g.now) }
@@ -228,7 +239,7 @@ pub fn is_same_modulo_1(f: &NumberWord, g: &NumberWord) -> bool
     let f = *f;
     let g = *g;
     let apart = apart(f.negative, f.num * g.den, g.negative, g.num * f.den);
-    apart % (f.den * g.den) == 0
+    is_multiple_of(apart, f.den * g.den)
 }
 
 /// The size of d times the fraction.

@@ -1,5 +1,5 @@
 pub mod Moving
-mod Found
+mod FoundTranslations
 mod Folding
 mod Making
 mod Ranges

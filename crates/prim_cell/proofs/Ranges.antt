@@ -2,9 +2,9 @@
 --
 -- The index d is at most 1024, the number of atoms. The entries of index · P in the triangular basis are at most d, so the
 -- metric tensor there has entries of at most 9 d² times those of the cell, 9.5 · 10^15; reduction does not enlarge them.
--- Let R take coordinates to the reduced basis, and G' = d² Pᵀ G P be its metric tensor. Then Rᵀ G' R = d² G, so a column of R
+-- Let Q take coordinates to the reduced basis, and G' = d² Pᵀ G P be its metric tensor. Then Qᵀ G' Q = d² G, so a column of Q
 -- has a squared length q of at most d² · 10^9 in G'. The metric tensor is reduced, so its diagonal entry a, a positive integer,
--- has a x² ≤ 2 q for a coordinate x of the column: x is at most 4.6 · 10^7. The adjugate of R has entries up to twice the
+-- has a x² ≤ 2 q for a coordinate x of the column: x is at most 4.6 · 10^7. The adjugate of Q has entries up to twice the
 -- square.
 use Rattle.std.proofs.Common.{◌≡◌, ℕ, suc, ◌+◌, ◌*◌, ◌^◌, ◌≤◌, ◌<◌, [], ◌∷◌, ℤ, pos, negsuc, ◌+ℤ◌, ◌*ℤ◌, neg_ℤ, unsigned_abs, ◌≤ℤ◌, ◌<ℤ◌, refl, ap, subst, ◌∙◌, lit≤, mul-le-mul, arith}
 use Rattle.std.proofs.lemmas.Int.{ints, unsigned_abs-mul}
@@ -47,7 +47,7 @@ step_metric_small p g h k =
     let m = 10 ^ 9 * MOST_ATOMS + 10 ^ 9 * MOST_ATOMS + 10 ^ 9 * MOST_ATOMS in
     entries_grown {a = metric_in p g} (lit≤ tt) (product_size _ _ (transposed_size p h) (product_size g p k h))
 
--- ---- the entries of R
+-- ---- the entries of Q
 root : (k r : ℕ) → k * k < suc r * suc r → k ≤ r
 root k r h = grind (arith, mul-le-mul)
 
@@ -80,7 +80,7 @@ column_small s x y z q m e h =
     above : (b c : ℤ) → pos 0 <ℤ b → b ≤ℤ c → pos 0 <ℤ c
     above b c h k = omega (arith, ints)
 
--- the squared lengths of the columns of R
+-- the squared lengths of the columns of Q
 length-1 : (s : Tensor ℤ) (w : Matrix) → squared_length int_ops s w.a11 w.a21 w.a31 ≡ (metric_in w (tensor_matrix s)).a11
 length-1 s w = by_ring int_ops int_laws (both s w) (squared_length quoted tensor_after matrix.a11 matrix.a21 matrix.a31) (carried quoted tensor_after matrix).a11 refl
 
@@ -95,7 +95,7 @@ multiple_small d z le h =
     let k : AtMost MOST_ATOMS (pos d) = record { size = le } in
     at_most_mul (at_most_mul k k) h
 
--- R, of determinant d, takes coordinates to those in a reduced basis
+-- Q, of determinant d, takes coordinates to those in a reduced basis
 pub back_small : (s : Tensor ℤ) (g r : Matrix) (d : ℕ) → IsReduced s → metric_in r (tensor_matrix s) ≡ matrix_multiple (pos d *ℤ pos d) g → d ≤ MOST_ATOMS → EntriesAtMost (10 ^ 9) g → EntriesAtMost (50 * 10 ^ 6) r
 back_small s g r d m e le h =
     let j = column_small s r.a11 r.a21 r.a31 _ m (length-1 s r ∙ ap (λ (a : Matrix). a.a11) e) (multiple_small d g.a11 le h.a11) in

@@ -8,7 +8,7 @@ use Rattle.ring.specs.Ring.{var, con, ◌:*◌}
 use Rattle.lists.specs.Increasing.{IsMember}
 use Rattle.lists.proofs.Members.{mapped_from}
 use Rattle.crystal_spec.specs.Matrices.{Matrix, product, transposed, determinant, adjugate, identity}
-use Rattle.crystal_spec.specs.Crystals.{Site, Structure, IsPositive}
+use Rattle.crystal_spec.specs.Crystals.{Atom, Structure, IsPositive}
 use Rattle.crystal_spec.specs.Operations.{Operation}
 use Rattle.crystal_spec.specs.Cells.{IsCell}
 use Rattle.crystal_spec.proofs.Entrywise.{matrix_same}
@@ -21,7 +21,7 @@ use Rattle.matrix3.specs.Bounds.{EntriesAtMost}
 use Rattle.op_group.specs.Lists.{OperationList}
 use Rattle.basis_spec.specs.Metrics.{matrix_multiple, metric_in}
 use Rattle.basis_spec.specs.Translations.{IsPrimitive, ListsPureTranslations}
-use Rattle.basis_spec.specs.Bases.{IsBack, cell_in_basis, site_in_basis}
+use Rattle.basis_spec.specs.Bases.{IsBack, cell_in_basis, in_basis}
 use Rattle.basis_spec.specs.StepBases.{IsSteps, InLattice}
 use Rattle.basis_spec.proofs.MatrixLaws.{metric_in-product, metric_in-metric_in_adjugate, image-product, image-identity, same_images}
 use Rattle.basis_spec.proofs.OperationBases.{at_least_one}
@@ -57,7 +57,7 @@ determinant_inverse base q one e =
 at_least : (i : ℕ) (d : ℤ) → pos i ≡ d → pos 1 ≤ℤ d → 1 ≤ i
 at_least i d e h = omega (arith, ints, e, h)
 
-module _ (c : Structure) (cell : IsCell c) (few : length c.sites ≤ MOST_ATOMS) (os : List Operation) (lists : ListsPureTranslations c os) (index : ℕ) (back fore : Matrix) (steps : IsSteps c.n (InLattice c.n os) index back fore)
+module _ (c : Structure) (cell : IsCell c) (few : length c.atoms ≤ MOST_ATOMS) (os : List Operation) (lists : ListsPureTranslations c os) (index : ℕ) (back fore : Matrix) (steps : IsSteps c.n (InLattice c.n os) index back fore)
     (s : Tensor ℤ) (base q : Matrix) (reduction : IsReduction (metric_in fore c.metric) (tensor_matrix s) base q) (small : EntriesAtMost (10 ^ 9) c.metric) where
   -- where the metric tensor is reduced already, the basis is the triangular one
   kept : TakesToStepBasis c os (product q back)
@@ -99,11 +99,11 @@ module _ (c : Structure) (cell : IsCell c) (few : length c.sites ≤ MOST_ATOMS)
       }
 
 -- an atom of the cell in another basis is at the image of a position of an atom of the cell
-position_image : (c : Structure) (r : Matrix) (a : Site) → IsMember a (cell_in_basis c r).sites → IsImageModulo c.n r a.position
+position_image : (c : Structure) (r : Matrix) (a : Atom) → IsMember a (cell_in_basis c r).atoms → IsImageModulo c.n r a.position
 unfolding cell_in_basis
 position_image c r a m =
-    let f = mapped_from (site_in_basis c.n c.kind r) a c.sites (member_of_firsts a (map (site_in_basis c.n c.kind r) c.sites) m) in
-    record { old_position = f.item.position; position_is = ap (λ (s : Site). s.position) f.is }
+    let f = mapped_from (in_basis c.n c.kind r) a c.atoms (member_of_firsts a (map (in_basis c.n c.kind r) c.atoms) m) in
+    record { old_position = f.item.position; position_is = ap (λ (s : Atom). s.position) f.is }
 
 -- the cell in it is a primitive cell
 pub is_primitive_cell : (c made : Structure) → IsCell c → EntriesAtMost (10 ^ 9) c.metric → (shifts : OperationList) (index : ℕ) (back fore metric : Matrix) → shifts.n ≡ c.n → ListsPureTranslations c shifts.operations → IsReducedBasis c shifts.operations index back fore metric → made ≡ cell_in_basis c back →
@@ -119,7 +119,7 @@ is_primitive_cell c made cell small shifts index back fore metric same lists b i
   niggli = subst IsNiggli (b.metric_is ∙ sym (ap (λ (s : Structure). s.metric) is)) b.niggli;
   back_entries = b.back_entries;
   fore_entries = b.fore_entries;
-  positions = λ a m. subst (λ (n : ℕ). IsImageModulo n back a.position) (sym (ap (λ (s : Structure). s.n) is)) (position_image c back a (subst (λ (s : Structure). IsMember a s.sites) is m));
+  positions = λ a m. subst (λ (n : ℕ). IsImageModulo n back a.position) (sym (ap (λ (s : Structure). s.n) is)) (position_image c back a (subst (λ (s : Structure). IsMember a s.atoms) is m));
   metric = record {
     old_metric = c.metric;
     symmetric = cell.symmetric;

@@ -5,17 +5,17 @@
 use Rattle.std.specs.Prelude.{◌≡◌, ℕ, slice_get, Some}
 use Rattle.lists.specs.Any.{AnyBelow}
 use Rattle.crystal_spec.specs.Matrices.{difference}
-use Rattle.crystal_spec.specs.Crystals.{Site, Structure}
+use Rattle.crystal_spec.specs.Crystals.{Atom, Structure}
 use Rattle.crystal_spec.specs.Operations.{Operation}
 use Rattle.positions.specs.Positions.{modulo}
 use Rattle.basis_spec.specs.Translations.{IsTranslation, pure_translation}
 
 -- the translation by the difference of the two positions, modulo n
 pub record IsOnto (c : Structure) (a b : ℕ) (o : Operation) : Type 0 where
-  pub from : Site
-  pub is_from : slice_get c.sites a ≡ Some from
-  pub onto : Site
-  pub is_onto : slice_get c.sites b ≡ Some onto
+  pub from : Atom
+  pub is_from : slice_get c.atoms a ≡ Some from
+  pub onto : Atom
+  pub is_onto : slice_get c.atoms b ≡ Some onto
   pub same_species : onto.species ≡ from.species
   pub is : o ≡ pure_translation (modulo c.n (difference onto.position from.position))
   pub keeps : IsTranslation c o.translation

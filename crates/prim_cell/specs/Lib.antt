@@ -1,4 +1,3 @@
 pub mod Candidates
-pub mod Sizes
 pub mod Rebasing
 pub mod Primitives

@@ -9,7 +9,7 @@
 use Rattle.std.specs.Prelude.{◌≡◌, ℕ, pos, ◌*◌, ◌*ℤ◌, ◌^◌, ◌≤◌, List, length}
 use Rattle.lists.specs.Increasing.{IsMember}
 use Rattle.crystal_spec.specs.Matrices.{Triple, Matrix, product, image, transposed, determinant, adjugate, identity}
-use Rattle.crystal_spec.specs.Crystals.{Site, Structure, IsPositive}
+use Rattle.crystal_spec.specs.Crystals.{Atom, Structure, IsPositive}
 use Rattle.crystal_spec.specs.Operations.{Operation}
 use Rattle.lattice_spec.specs.Niggli.{IsNiggli}
 use Rattle.crystal.specs.declared.limits.TheConstants.{MOST_ATOMS}
@@ -34,12 +34,12 @@ pub record PrimitiveCell : Type 0 where
   pub index : ℕ
   pub shifts : OperationList
 
--- q is R p modulo n
+-- q is Q p modulo n
 pub record IsImageModulo (n : ℕ) (r : Matrix) (q : Triple) : Type 0 where
   pub old_position : Triple
   pub position_is : q ≡ modulo n (image r old_position)
 
--- Rᵀ g R is index² times a symmetric, positive metric tensor of integers of size at most 10^9
+-- Qᵀ g Q is index² times a symmetric, positive metric tensor of integers of size at most 10^9
 pub record ComesFromMetric (index : ℕ) (r g : Matrix) : Type 0 where
   pub old_metric : Matrix
   pub symmetric : transposed old_metric ≡ old_metric
@@ -61,7 +61,7 @@ pub record IsPrimitiveCell (p : PrimitiveCell) : Type 0 where
   pub niggli : IsNiggli p.cell.metric
   pub back_entries : EntriesAtMost (50 * 10 ^ 6) p.back
   pub fore_entries : EntriesAtMost (5 * 10 ^ 15) p.fore
-  pub positions : (a : Site) → IsMember a p.cell.sites → IsImageModulo p.cell.n p.back a.position
+  pub positions : (a : Atom) → IsMember a p.cell.atoms → IsImageModulo p.cell.n p.back a.position
   pub metric : ComesFromMetric p.index p.back p.cell.metric
 
 -- the metric tensor g in that basis is reduced

@@ -48,7 +48,7 @@ pub(crate) fn reduced_basis(cell: &Cell, shifts: &OpList) -> Basis
     requires metric { EntriesAtMost (10 ^ 9) cell.now.metric }
     ensures { IsReducedBasis cell.now shifts.now.operations result.index result.back result.fore (metric_of result.metric) }
 {
-    let _form = cell.count();
+    cell.invariant();
     let steps = step_basis(shifts);
     let reduced = reduce(&changed_metric(&cell.metric().matrix(), &steps.fore));
     Basis {

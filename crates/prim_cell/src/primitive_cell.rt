@@ -74,6 +74,13 @@ impl Primitive {
         &self.fore
     }
 
+    /// What holds of each primitive cell. It does nothing.
+    pub fn invariant(&self)
+        ensures form { IsPrimitiveCell self.now }
+    {
+        let _ = &self.index;
+    }
+
     /// The determinant of Q: how many pure translations there are.
     pub fn index(&self) -> u32
         ensures value { result ≡ self.now.index }

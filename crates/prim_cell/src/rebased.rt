@@ -4,15 +4,15 @@ ghost use Rattle.std.specs.Prelude.{◌≡◌, ◌↔◌, ◌<◌, ◌≤◌, �
 ghost use Rattle.std.specs.Int.{int_rem_euclid};
 ghost use Rattle.ring.specs.Size.{AtMost};
 ghost use Rattle.crystal_spec.specs.Matrices.{determinant, adjugate, image};
-ghost use Rattle.crystal_spec.specs.Crystals.{Site, IsPositive};
-ghost use Rattle.crystal.specs.Views.{metric_of, site_of};
+ghost use Rattle.crystal_spec.specs.Crystals.{Atom as ViewedAtom, IsPositive};
+ghost use Rattle.crystal.specs.Views.{metric_of, atom_of};
 ghost use Rattle.matrix3.specs.Bounds.{EntriesAtMost, CoordinatesAtMost};
-ghost use Rattle.crystal.specs.Cells.{IsSiteOf};
+ghost use Rattle.crystal.specs.Cells.{IsCellAtom};
 ghost use Rattle.crystal.specs.Occupants.{NoneAt};
 ghost use Rattle.positions.specs.Positions.{modulo, triple_of};
 ghost use Rattle.basis_spec.specs.Metrics.{metric_in};
-ghost use Rattle.basis_spec.specs.Bases.{cell_in_basis, first_at_each_position, site_in_basis};
-ghost use Rattle.prim_cell.specs.Sizes.{HasMomentsAtMost};
+ghost use Rattle.basis_spec.specs.Bases.{cell_in_basis, first_at_each_position, in_basis};
+ghost use Rattle.crystal.specs.Sizes.{HasMomentsAtMost};
 ghost use Rattle.prim_cell.specs.Rebasing.{with_atoms, started};
 
 use crystal::{Atom, Cell, MOST_ATOMS, Metric, MomentKind, turn_matrix};
@@ -21,11 +21,11 @@ use matrix3::Mat3;
 use positions::MatrixModulo;
 use std::alloc::{AllocError, Global};
 
-/// An atom with a moment of this kind in the basis to which R takes coordinates, brought into the cell.
+/// An atom with a moment of this kind in the basis to which Q takes coordinates, brought into the cell.
 fn atom_in_basis(r: &MatrixModulo, kind: MomentKind, atom: &Atom) -> Atom
     requires basis { EntriesAtMost 50000000 r.now.matrix }
     requires moment { CoordinatesAtMost (10 ^ 9) atom.now.moment }
-    ensures value { site_of result ≡ site_in_basis r.now.modulus kind r.now.matrix (site_of atom.now) }
+    ensures value { atom_of result ≡ in_basis r.now.modulus kind r.now.matrix (atom_of atom.now) }
     ensures moment { CoordinatesAtMost (2 * 10 ^ 27) result.moment }
 {
     Atom {
@@ -37,9 +37,9 @@ fn atom_in_basis(r: &MatrixModulo, kind: MomentKind, atom: &Atom) -> Atom
 
 /// Adds the atom, unless one is at its position.
 fn put(made: &mut Cell, atom: Atom) -> Result<(), AllocError>
-    requires site { IsSiteOf (length made.old.names) made.old.n made.old.kind (site_of atom) }
-    requires fewer { length made.old.sites < MOST_ATOMS }
-    ensures { OnOk result ((sites : List Site) → made.old.sites ≡ first_at_each_position sites → made.new ≡ record made.old { sites = first_at_each_position (sites ++ site_of atom ∷ []) }) }
+    requires atom { IsCellAtom (length made.old.names) made.old.n made.old.kind (atom_of atom) }
+    requires fewer { length made.old.atoms < MOST_ATOMS }
+    ensures { OnOk result ((atoms : List ViewedAtom) → made.old.atoms ≡ first_at_each_position atoms → made.new ≡ record made.old { atoms = first_at_each_position (atoms ++ atom_of atom ∷ []) }) }
 {
     if made.is_free(atom.place) {
         made.add(atom)?;
@@ -56,10 +56,10 @@ fn add_atoms(made: &mut Cell, cell: &Cell, r: &Mat3<Int>) -> Result<(), AllocErr
     requires n { made.old.n ≡ cell.now.n }
     requires kind { made.old.kind ≡ cell.now.kind }
     requires names { made.old.names ≡ cell.now.names }
-    requires first { made.old.sites ≡ first_at_each_position (map (site_in_basis cell.now.n cell.now.kind r.now) (take 1 cell.now.sites)) }
-    ensures { OnOk result (made.new ≡ with_atoms made.old cell.now r.now cell.now.sites) }
+    requires first { made.old.atoms ≡ first_at_each_position (map (in_basis cell.now.n cell.now.kind r.now) (take 1 cell.now.atoms)) }
+    ensures { OnOk result (made.new ≡ with_atoms made.old cell.now r.now cell.now.atoms) }
 {
-    let _form = cell.count();
+    cell.invariant();
     let basis = MatrixModulo::new(r, cell.n());
     let kind = cell.kind();
     for i in 1..cell.count() {
@@ -87,7 +87,7 @@ fn first_in_basis(
     requires moments { HasMomentsAtMost (10 ^ 9) cell.now }
     ensures { IfOk result (λ made. made ≡ started cell.now r.now) }
 {
-    let _form = cell.count();
+    cell.invariant();
     let scale = Int::from(index) * Int::from(index) * cell.scale();
     let kind = cell.kind();
     let basis = MatrixModulo::new(r, cell.n());
@@ -97,7 +97,7 @@ fn first_in_basis(
     Ok(made)
 }
 
-/// The cell in the basis to which R takes coordinates, of determinant `index`, with its metric tensor there.
+/// The cell in the basis to which Q takes coordinates, of determinant `index`, with its metric tensor there.
 ///
 /// Of atoms at one position in it the first is kept. Refuses for want of memory alone.
 pub(crate) fn rebased(
@@ -118,7 +118,7 @@ pub(crate) fn rebased(
     requires moments { HasMomentsAtMost (10 ^ 9) cell.now }
     ensures { IfOk result (λ made. made ≡ cell_in_basis cell.now r.now) }
 {
-    let _form = cell.count();
+    cell.invariant();
     let mut made = first_in_basis(alloc, cell, r, index, metric)?;
     made.add_names_of(cell)?;
     add_atoms(&mut made, cell, r)?;

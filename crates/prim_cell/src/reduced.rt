@@ -7,7 +7,7 @@ ghost use Rattle.matrix3.specs.Bounds.{EntriesAtMost};
 ghost use Rattle.crystal.specs.Numbering.{AreByFirstUse};
 ghost use Rattle.basis_spec.specs.Translations.{ListsPureTranslations};
 ghost use Rattle.basis_spec.specs.Bases.{cell_in_basis, IsPrimitiveIn};
-ghost use Rattle.prim_cell.specs.Sizes.{HasSizesOfRead};
+ghost use Rattle.crystal.specs.Sizes.{HasSizesOfRead};
 ghost use Rattle.prim_cell.specs.Primitives.{TakesToStepBasis};
 
 use crate::basis::{Basis, reduced_basis};
@@ -32,10 +32,10 @@ pub fn primitive(alloc: Global, cell: &Cell) -> Result<Primitive, AllocError>
     ensures count { IfOk result (λ p. length p.shifts.operations ≡ p.index) }
     ensures fore { IfOk result (λ p. p.fore ≡ adjugate p.back) }
     ensures niggli { IfOk result (λ p. IsNiggli p.cell.metric) }
-    ensures numbered { IfOk result (λ p. AreByFirstUse 0 (length cell.now.names) cell.now.sites → AreByFirstUse 0 (length p.cell.names) p.cell.sites) }
+    ensures numbered { IfOk result (λ p. AreByFirstUse 0 (length cell.now.names) cell.now.atoms → AreByFirstUse 0 (length p.cell.names) p.cell.atoms) }
     ensures kept { IfOk result (λ p. TakesToStepBasis cell.now p.shifts.operations p.back) }
 {
-    let _form = cell.count();
+    cell.invariant();
     let places = Places::new(alloc, cell)?;
     let shifts = pure_shifts(alloc, &places)?;
     let basis = reduced_basis(cell, &shifts);

@@ -14,34 +14,6 @@ use op_group::{Op, OpList};
 use positions::between;
 use std::alloc::{AllocError, Global};
 
-/// How many atoms of the cell are of this species.
-fn count_of(cell: &Cell, species: u16) -> usize {
-    let mut count = 0;
-    for i in 0..cell.count() {
-        if cell.atom(i).species == species {
-            count += 1;
-        }
-    }
-    count
-}
-
-/// The number of the first atom of a rarest species.
-fn rarest(cell: &Cell) -> usize
-    ensures { result < length cell.now.sites }
-{
-    let atoms = cell.count();
-    let mut least = count_of(cell, cell.atom(0).species);
-    let mut rarest = 0;
-    for i in 1..atoms {
-        let count = count_of(cell, cell.atom(i).species);
-        if count < least {
-            least = count;
-            rarest = i;
-        }
-    }
-    rarest
-}
-
 /// Puts the translation that carries one atom onto another of its species into the list, where it keeps the crystal.
 fn add_onto(
     places: &Places,
@@ -53,14 +25,14 @@ fn add_onto(
 ) -> Result<(), AllocError>
     requires identity { action.now.matrix ≡ identity }
     requires acts { ActsOn places.now action.now }
-    requires from { from < length places.now.sites }
-    requires onto { onto < length places.now.sites }
+    requires from { from < length places.now.atoms }
+    requires onto { onto < length places.now.atoms }
     requires n { found.old.n ≡ places.now.n }
     ensures n { found.new.n ≡ places.now.n }
     ensures members { OnOk result ((o : Operation) → IsMember o found.new.operations ↔ (IsOnto places.now from onto o ⊎ IsMember o found.old.operations)) }
 {
     let cell = places.cell();
-    let _form = cell.count();
+    cell.invariant();
     let first = cell.atom(from);
     let atom = cell.atom(onto);
     if atom.species != first.species {
@@ -85,7 +57,7 @@ pub fn pure_shifts(alloc: Global, places: &Places) -> Result<OpList, AllocError>
     ensures exact { IfOk result (λ list. ListsPureTranslations places.now list.operations) }
 {
     let cell = places.cell();
-    let from = rarest(cell);
+    let from = cell.rarest();
     let action = places.action(&Mat3::identity());
     let mut found = OpList::new(alloc, cell.n());
     let mut last = Failure::none();
@@ -93,6 +65,6 @@ pub fn pure_shifts(alloc: Global, places: &Places) -> Result<OpList, AllocError>
         add_onto(places, &action, from, onto, &mut found, &mut last)?;
     }
     let _first = cell.atom(from);
-    let _count = found.count();
+    found.invariant();
     Ok(found)
 }

@@ -6,7 +6,7 @@ use Rattle.numbers.specs.Gcd.{gcd}
 use Rattle.crystal_spec.specs.declared.Sign.TheVariants.{Same}
 use Rattle.crystal_spec.specs.Matrices.{Matrix, identity}
 use Rattle.crystal_spec.specs.Moments.{axial_vectors}
-use Rattle.crystal_spec.specs.Crystals.{Site, Structure}
+use Rattle.crystal_spec.specs.Crystals.{Atom, Structure}
 use Rattle.crystal_spec.specs.Operations.{Operation}
 use Rattle.op_group.specs.Lists.{OperationList}
 use Rattle.operation_text.specs.OperationText.{parts_text}
@@ -36,7 +36,7 @@ one_atom = record {
   n = 1;
   k = 1;
   kind = axial_vectors;
-  sites = record { species = 0; position = record { x = pos 0; y = pos 0; z = pos 0 }; moment = record { x = pos 1; y = pos 2; z = pos 3 } } ∷ [];
+  atoms = record { species = 0; position = record { x = pos 0; y = pos 0; z = pos 0 }; moment = record { x = pos 1; y = pos 2; z = pos 3 } } ∷ [];
 }
 
 abbrev one_atom_operations : OperationList
@@ -58,8 +58,8 @@ thirds_of_a_metric = refl
 
 -- ---- orbits
 
-abbrev site_of_species : ℕ → Site
-site_of_species species = record { species = species; position = record { x = pos 0; y = pos 0; z = pos 0 }; moment = record { x = pos 0; y = pos 0; z = pos 0 } }
+abbrev atom_of_species : ℕ → Atom
+atom_of_species species = record { species = species; position = record { x = pos 0; y = pos 0; z = pos 0 }; moment = record { x = pos 0; y = pos 0; z = pos 0 } }
 
 -- the inversion is of the site-symmetry group of the second atom alone, and takes the first to the third
 abbrev three_orbits : List AtomOrbit
@@ -67,7 +67,7 @@ three_orbits =
     let moved : AtomOrbit = record { first = 0; size = 2; site = record { n = 1; operations = operation_of_matrix identity ∷ [] } } in
     moved ∷ record { first = 1; size = 1; site = one_atom_operations } ∷ moved ∷ []
 
-text_of_orbits : orbit_text (codes "A" ∷ codes "B" ∷ []) (site_of_species 0 ∷ site_of_species 1 ∷ site_of_species 0 ∷ []) three_orbits
+text_of_orbits : orbit_text (codes "A" ∷ codes "B" ∷ []) (atom_of_species 0 ∷ atom_of_species 1 ∷ atom_of_species 0 ∷ []) three_orbits
     ≡ codes "atom 1 A orbit 1 site 1\natom 2 B orbit 2 site 2\natom 3 A orbit 1 site 1\norbit 1 size 2 site 1\nx,y,z,+1\norbit 2 size 1 site 2\n-x,-y,-z,+1\nx,y,z,+1\n"
 unfolding orbit_text parts_text digits
 text_of_orbits = refl
@@ -82,7 +82,7 @@ text_of_a_primitive_cell = refl
 abbrev one_scalar : Structure
 one_scalar = record one_atom {
   kind = record { vector = false; axial = false };
-  sites = record { species = 0; position = record { x = pos 0; y = pos 0; z = pos 0 }; moment = record { x = pos 1; y = pos 0; z = pos 0 } } ∷ [];
+  atoms = record { species = 0; position = record { x = pos 0; y = pos 0; z = pos 0 }; moment = record { x = pos 1; y = pos 0; z = pos 0 } } ∷ [];
 }
 
 text_of_a_primitive_cell_of_scalars : cell_in_basis_text 2 inversion one_scalar ≡ codes "magcell 2\n# index 2\n# back -1 0 0 0 -1 0 0 0 -1\nkind scalar plain\nmetric 4 5 6 1 1 1\natom X 0 0 0 1\nend\n"

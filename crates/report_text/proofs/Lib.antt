@@ -1,4 +1,4 @@
-pub mod DatasetLemmas
+mod DatasetLemmas
 mod KnownValues
 mod OrbitLemmas
 mod PlainTexts

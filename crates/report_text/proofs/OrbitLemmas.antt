@@ -3,7 +3,7 @@ use Rattle.std.proofs.Common.{◌≡◌, ℕ, ◌+◌, List, [], ◌∷◌, ◌+
 use Rattle.std.specs.Prelude.{slice_get}
 use Rattle.std.proofs.lemmas.Option.{get_or_from_slice_get}
 use Rattle.lists.proofs.Walks.{drop_at}
-use Rattle.crystal_spec.specs.Crystals.{Site}
+use Rattle.crystal_spec.specs.Crystals.{Atom}
 use Rattle.site_orbits.specs.Entries.{AtomOrbit}
 use Rattle.report_text.specs.OrbitText.{atom_text, atom_lines, orbit_part, orbit_lines}
 
@@ -27,21 +27,21 @@ orbit_from_pieces old n1 n2 n3 n4 n5 a b d lines e1 e2 e3 e4 e5 =
 pub step : {X : Type 0} (out line rest old pushed whole : List X) → whole ≡ line ++ rest → out ++ whole ≡ old → pushed ≡ out ++ line → pushed ++ rest ≡ old
 step out line rest old pushed whole first so_far e = ap (λ z. z ++ rest) e ∙ append_assoc out line rest ∙ ap (λ z. out ++ z) (sym first) ∙ so_far
 
-lines_at : (names : List (List ℕ)) (i : ℕ) (sites : List Site) (orbits : List AtomOrbit) (a : Site) (o : AtomOrbit) (more : List Site) (others : List AtomOrbit) → sites ≡ a ∷ more → orbits ≡ o ∷ others →
-    atom_lines names i sites orbits ≡ atom_text i (get_or names a.species []) o.first (length o.site.operations) ++ atom_lines names (i + 1) more others
-lines_at names i sites orbits a o more others s e = ap (λ (xs : List Site). atom_lines names i xs orbits) s ∙ ap (λ (ys : List AtomOrbit). atom_lines names i (a ∷ more) ys) e
+lines_at : (names : List (List ℕ)) (i : ℕ) (atoms : List Atom) (orbits : List AtomOrbit) (a : Atom) (o : AtomOrbit) (more : List Atom) (others : List AtomOrbit) → atoms ≡ a ∷ more → orbits ≡ o ∷ others →
+    atom_lines names i atoms orbits ≡ atom_text i (get_or names a.species []) o.first (length o.site.operations) ++ atom_lines names (i + 1) more others
+lines_at names i atoms orbits a o more others s e = ap (λ (xs : List Atom). atom_lines names i xs orbits) s ∙ ap (λ (ys : List AtomOrbit). atom_lines names i (a ∷ more) ys) e
 
 -- the line of one atom more
-pub atoms_more : (names : List (List ℕ)) (sites : List Site) (orbits : List AtomOrbit) (i : ℕ) (a : Site) (o : AtomOrbit) (name : List ℕ) (first count : ℕ) (out old pushed : List ℕ) →
-    slice_get sites i ≡ Some a → slice_get orbits i ≡ Some o → slice_get names a.species ≡ Some name → first ≡ o.first → count ≡ length o.site.operations →
-    out ++ atom_lines names i (drop i sites) (drop i orbits) ≡ old → pushed ≡ out ++ atom_text i name first count →
-    pushed ++ atom_lines names (i + 1) (drop (i + 1) sites) (drop (i + 1) orbits) ≡ old
-atoms_more names sites orbits i a o name first count out old pushed at here named f k so_far e =
+pub atoms_more : (names : List (List ℕ)) (atoms : List Atom) (orbits : List AtomOrbit) (i : ℕ) (a : Atom) (o : AtomOrbit) (name : List ℕ) (first count : ℕ) (out old pushed : List ℕ) →
+    slice_get atoms i ≡ Some a → slice_get orbits i ≡ Some o → slice_get names a.species ≡ Some name → first ≡ o.first → count ≡ length o.site.operations →
+    out ++ atom_lines names i (drop i atoms) (drop i orbits) ≡ old → pushed ≡ out ++ atom_text i name first count →
+    pushed ++ atom_lines names (i + 1) (drop (i + 1) atoms) (drop (i + 1) orbits) ≡ old
+atoms_more names atoms orbits i a o name first count out old pushed at here named f k so_far e =
     let word : get_or names a.species [] ≡ name = get_or_from_slice_get names a.species name [] named in
     let line : atom_text i name first count ≡ atom_text i (get_or names a.species []) o.first (length o.site.operations) =
     ap (λ (m : List ℕ). atom_text i m first count) (sym word) ∙ ap (λ (m : ℕ). atom_text i (get_or names a.species []) m count) f ∙ ap (atom_text i (get_or names a.species []) o.first) k in
-    step out (atom_text i (get_or names a.species []) o.first (length o.site.operations)) (atom_lines names (i + 1) (drop (i + 1) sites) (drop (i + 1) orbits)) old pushed (atom_lines names i (drop i sites) (drop i orbits))
-    (lines_at names i (drop i sites) (drop i orbits) a o (drop (i + 1) sites) (drop (i + 1) orbits) (drop_at sites i a at) (drop_at orbits i o here)) so_far (e ∙ ap (λ (z : List ℕ). out ++ z) line)
+    step out (atom_text i (get_or names a.species []) o.first (length o.site.operations)) (atom_lines names (i + 1) (drop (i + 1) atoms) (drop (i + 1) orbits)) old pushed (atom_lines names i (drop i atoms) (drop i orbits))
+    (lines_at names i (drop i atoms) (drop i orbits) a o (drop (i + 1) atoms) (drop (i + 1) orbits) (drop_at atoms i a at) (drop_at orbits i o here)) so_far (e ∙ ap (λ (z : List ℕ). out ++ z) line)
 
 -- the lines of the orbit of one atom more
 pub orbits_more : (orbits : List AtomOrbit) (i : ℕ) (o : AtomOrbit) (out old pushed : List ℕ) →

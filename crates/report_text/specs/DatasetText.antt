@@ -5,11 +5,10 @@
 --   operation_items l                  the operations of a list in order, each as its four parts
 --   orbit_items orbits                 the numbers from 1 of the first alike atoms
 --   site_items orbits                  how many operations the site-symmetry groups have
---   AreFirstsBelow orbits              each first alike atom is one of the list
 --   dataset index back c l order kind orbits       the object, of a cell c in another basis with this index and this Q
 --   dataset_text index back c l order kind orbits  its text
 -- The keys are our own; JSON is that of [RFC8259].
-use Rattle.std.specs.Prelude.{◌≡◌, ◌+◌, ◌<◌, ℕ, List, [], ◌∷◌, ◌++◌, map, drop, length, codes, unsigned_abs, slice_get, Some}
+use Rattle.std.specs.Prelude.{◌+◌, ℕ, List, [], ◌∷◌, ◌++◌, map, drop, length, codes, unsigned_abs}
 use Rattle.crystal_spec.specs.Matrices.{Matrix}
 use Rattle.crystal_spec.specs.Crystals.{Structure}
 use Rattle.crystal_spec.specs.Operations.{Operation}
@@ -55,10 +54,6 @@ site_data o = number (unsigned (length o.site.operations))
 -- atom by atom
 abbrev pub site_items : List AtomOrbit → Items
 site_items orbits = items_of (map site_data orbits)
-
--- the numbers of the first alike atoms, from 0, are those of atoms of the list
-abbrev pub AreFirstsBelow : List AtomOrbit → Type 0
-AreFirstsBelow orbits = (i : ℕ) (o : AtomOrbit) → slice_get orbits i ≡ Some o → o.first < length orbits
 
 -- Q, the index and the metric tensor of the primitive cell; its operations and how many they are; the cell that it was made
 -- of: how many operations that has, and atom by atom the first alike atom and the count of the site-symmetry group; and the

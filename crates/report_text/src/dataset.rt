@@ -2,7 +2,8 @@
 ghost use Rattle.std.specs.Prelude.{◌≡◌, ◌≤◌, ◌<◌, drop, length, slice_get, IfSome, string_bytes, IsAscii, IfOk};
 ghost use Rattle.op_group.specs.Views.{operation_of};
 ghost use Rattle.serde_json.specs.View.{view, items_view};
-ghost use Rattle.report_text.specs.DatasetText.{entries_words, metric_words, operation_data, operation_items, orbit_data, orbit_items, site_data, site_items, AreFirstsBelow, dataset, dataset_text};
+ghost use Rattle.report_text.specs.DatasetText.{entries_words, metric_words, operation_data, operation_items, orbit_data, orbit_items, site_data, site_items, dataset, dataset_text};
+ghost use Rattle.site_orbits.specs.Entries.{AreFirstsBelow};
 
 use cell_print::push_products;
 use crystal::Cell;
@@ -39,10 +40,10 @@ fn entries_words(alloc: Global, matrix: &Mat3<Int>) -> Result<String, AllocError
 fn metric_words(alloc: Global, cell: &Cell) -> Result<String, AllocError>
     ensures { IfOk result (λ text. string_bytes text ≡ metric_words cell.now) }
 {
-    let _form = cell.count();
+    cell.invariant();
     let scale = cell.scale().get().unsigned_abs();
     let mut words = Bytes::new(alloc);
-    push_products(alloc, &mut words, scale, cell.metric())?;
+    push_products(&mut words, scale, cell.metric())?;
     words_behind_space(alloc, &words)
 }
 
@@ -51,7 +52,7 @@ fn operation_value(alloc: Global, n: u32, op: &Op) -> Result<Value, AllocError>
     ensures { IfOk result (λ value. view value ≡ operation_data n (operation_of op.now)) }
 {
     let mut parts = Bytes::new(alloc);
-    push_parts(alloc, &mut parts, n, op)?;
+    push_parts(&mut parts, n, op)?;
     let text = String::from_utf8_lossy(alloc, parts.as_slice())?;
     Ok(Value::from(text))
 }

@@ -12,16 +12,11 @@ use site_orbits::Orbits;
 use std::alloc::{AllocError, Global};
 
 /// Adds words and a number in decimal.
-fn push_counted(
-    alloc: Global,
-    out: &mut Bytes,
-    words: &[u8],
-    number: u128,
-) -> Result<(), AllocError>
+fn push_counted(out: &mut Bytes, words: &[u8], number: u128) -> Result<(), AllocError>
     ensures { OnOk result (out.new ≡ out.old ++ counted_text words.now number) }
 {
     out.append(words)?;
-    push_decimal(alloc, out, number)?;
+    push_decimal(out, number)?;
     Ok(())
 }
 
@@ -29,7 +24,6 @@ fn push_counted(
 ///
 /// `first` is the number of its first alike atom, and `count` tells how many operations its site-symmetry group has.
 fn push_atom(
-    alloc: Global,
     out: &mut Bytes,
     i: usize,
     name: &Name,
@@ -38,28 +32,23 @@ fn push_atom(
 ) -> Result<(), AllocError>
     ensures { OnOk result (out.new ≡ out.old ++ atom_text i name.now first count) }
 {
-    push_counted(alloc, out, b"atom ", i as u128 + 1)?;
+    push_counted(out, b"atom ", i as u128 + 1)?;
     out.push(b' ')?;
     push_name(out, name)?;
-    push_counted(alloc, out, b" orbit ", first as u128 + 1)?;
-    push_counted(alloc, out, b" site ", count as u128)?;
+    push_counted(out, b" orbit ", first as u128 + 1)?;
+    push_counted(out, b" site ", count as u128)?;
     out.push(b'\n')?;
     Ok(())
 }
 
 /// Adds the lines of the atoms.
-fn push_atoms(
-    alloc: Global,
-    out: &mut Bytes,
-    cell: &Cell,
-    orbits: &Orbits,
-) -> Result<(), AllocError>
-    requires same_atoms { length orbits.now ≡ length cell.now.sites }
-    ensures { OnOk result (out.new ≡ out.old ++ atom_lines cell.now.names 0 cell.now.sites orbits.now) }
+fn push_atoms(out: &mut Bytes, cell: &Cell, orbits: &Orbits) -> Result<(), AllocError>
+    requires same_atoms { length orbits.now ≡ length cell.now.atoms }
+    ensures { OnOk result (out.new ≡ out.old ++ atom_lines cell.now.names 0 cell.now.atoms orbits.now) }
 {
     for i in 0..cell.count() {
         let name = cell.name(cell.atom(i).species);
-        push_atom(alloc, out, i, name, orbits.first(i), orbits.site(i).count())?;
+        push_atom(out, i, name, orbits.first(i), orbits.site(i).count())?;
     }
     Ok(())
 }
@@ -74,9 +63,9 @@ fn push_orbit(
 ) -> Result<(), AllocError>
     ensures { OnOk result (out.new ≡ out.old ++ orbit_lines_of i size site.now) }
 {
-    push_counted(alloc, out, b"orbit ", i as u128 + 1)?;
-    push_counted(alloc, out, b" size ", size as u128)?;
-    push_counted(alloc, out, b" site ", site.count() as u128)?;
+    push_counted(out, b"orbit ", i as u128 + 1)?;
+    push_counted(out, b" size ", size as u128)?;
+    push_counted(out, b" site ", site.count() as u128)?;
     out.push(b'\n')?;
     let operations = ops_report(alloc, site, 0, None)?;
     out.append(operations.as_slice())?;
@@ -112,11 +101,11 @@ fn push_orbits(alloc: Global, out: &mut Bytes, orbits: &Orbits) -> Result<(), Al
 /// primitive cell are in it, and how many operations the site-symmetry group of that atom has; these follow, one line
 /// each, in the basis of the primitive cell. Refuses for want of memory alone.
 pub fn orbit_report(alloc: Global, cell: &Cell, orbits: &Orbits) -> Result<Bytes, AllocError>
-    requires same_atoms { length orbits.now ≡ length cell.now.sites }
-    ensures { IfOk result (λ text. text ≡ orbit_text cell.now.names cell.now.sites orbits.now) }
+    requires same_atoms { length orbits.now ≡ length cell.now.atoms }
+    ensures { IfOk result (λ text. text ≡ orbit_text cell.now.names cell.now.atoms orbits.now) }
 {
     let mut out = Bytes::new(alloc);
-    push_atoms(alloc, &mut out, cell, orbits)?;
+    push_atoms(&mut out, cell, orbits)?;
     push_orbits(alloc, &mut out, orbits)?;
     Ok(out)
 }

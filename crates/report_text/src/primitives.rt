@@ -44,6 +44,6 @@ pub fn prim_report(alloc: Global, prim: &Primitive) -> Result<Bytes, AllocError>
     push_heading(&mut out, cell.kind())?;
     push_index(alloc, &mut out, prim.index())?;
     push_back(alloc, &mut out, prim.back())?;
-    push_cell(alloc, &mut out, cell)?;
+    push_cell(&mut out, cell)?;
     Ok(out)
 }

@@ -2,7 +2,7 @@
 use Rattle.std.proofs.Common.{◌≡◌, refl, sym, ap, ◌∙◌, ℕ, List}
 use Rattle.crystal_spec.specs.Matrices.{Triple, Matrix, image}
 use Rattle.crystal_spec.specs.Moments.{turn_matrix}
-use Rattle.crystal_spec.specs.Crystals.{Site, Structure, position_after}
+use Rattle.crystal_spec.specs.Crystals.{Atom, Structure, position_after}
 use Rattle.crystal_spec.specs.Operations.{Operation, ListsAll}
 use Rattle.crystal_spec.specs.Cells.{DiffersByCells, HasOneAtomEach}
 use Rattle.crystal_spec.proofs.Images.{occupied_itself}
@@ -15,7 +15,7 @@ use Rattle.op_group.specs.Composition.{identity_operation, IsComposed}
 use Rattle.op_group.specs.Groups.{IsGroupModulo}
 use Rattle.op_group.proofs.Composing.{composed_position}
 use Rattle.site_orbits.specs.Orbits.{Carries, IsAlike, IsEquivalence, HasOneSpecies}
-use Rattle.site_orbits.proofs.Carrying.{moved_differs}
+use Rattle.site_orbits.proofs.CarriedPositions.{moved_differs}
 
 -- one operation after the other carries p to where the next carries what the first carries p to
 pub carries_composed : {n : ℕ} (a b r : Operation) (p : Triple) {q u : Triple} → IsComposed n a b r → Carries n a p q → Carries n b q u → Carries n r p u
@@ -46,7 +46,7 @@ one_species c b r os same one all x y mx my h =
     let from = (same.crystal x.species x.position x.moment).0 (occupied_itself c x mx) in
     let to = (((all.exact o).0 h.of_list).keeps.crystal x.species (image r x.position) (image (turn_matrix c.kind r) x.moment)).0 from in
     let at = (same.crystal y.species y.position y.moment).0 (occupied_itself c y my) in
-    let there : DiffersByCells b.n (position_after o.matrix o.translation (image r x.position)) to.site.position = record { cells = to.cells; is = to.same_position } in
-    let here : DiffersByCells b.n (image r y.position) at.site.position = record { cells = at.cells; is = at.same_position } in
-    let is : to.site ≡ at.site = one to.site at.site to.of_cell at.of_cell (differs_trans (differs_sym there) (differs_trans h.carries here)) in
-    sym to.same_species ∙ ap (λ (a : Site). a.species) is ∙ at.same_species
+    let there : DiffersByCells b.n (position_after o.matrix o.translation (image r x.position)) to.atom.position = record { cells = to.cells; is = to.same_position } in
+    let here : DiffersByCells b.n (image r y.position) at.atom.position = record { cells = at.cells; is = at.same_position } in
+    let is : to.atom ≡ at.atom = one to.atom at.atom to.of_cell at.of_cell (differs_trans (differs_sym there) (differs_trans h.carries here)) in
+    sym to.same_species ∙ ap (λ (a : Atom). a.species) is ∙ at.same_species

@@ -7,7 +7,7 @@ use Rattle.lists.specs.Increasing.{IsMember}
 use Rattle.crystal_spec.specs.declared.Sign.TheVariants.{Same}
 use Rattle.crystal_spec.specs.Matrices.{Triple, identity, image}
 use Rattle.crystal_spec.specs.Moments.{axial_vectors}
-use Rattle.crystal_spec.specs.Crystals.{Site, Structure}
+use Rattle.crystal_spec.specs.Crystals.{Atom, Structure}
 use Rattle.crystal_spec.specs.Operations.{Operation}
 use Rattle.site_orbits.specs.Orbits.{Carries, IsAlike, IsFixedBy, ListsSite, IsInOrbit, CountsOrbit, IsFirstAlike}
 
@@ -30,14 +30,14 @@ one_quarter = at (pos 1) (pos 0) (pos 0)
 abbrev three_quarters : Triple
 three_quarters = at (pos 3) (pos 0) (pos 0)
 
-abbrev atom : ℕ → Triple → Site
+abbrev atom : ℕ → Triple → Atom
 atom species p = record { species = species; position = p; moment = at (pos 0) (pos 0) (pos 0) }
 
-abbrev origin_atom : Site
+abbrev origin_atom : Atom
 origin_atom = atom 0 (at (pos 0) (pos 0) (pos 0))
 
 abbrev crystal : Structure
-crystal = record { names = (65 ∷ []) ∷ (66 ∷ []) ∷ []; scale = pos 1; metric = identity; n = 4; k = 1; kind = axial_vectors; sites = origin_atom ∷ atom 1 one_quarter ∷ atom 1 three_quarters ∷ [] }
+crystal = record { names = (65 ∷ []) ∷ (66 ∷ []) ∷ []; scale = pos 1; metric = identity; n = 4; k = 1; kind = axial_vectors; atoms = origin_atom ∷ atom 1 one_quarter ∷ atom 1 three_quarters ∷ [] }
 
 -- the inversion carries the one to the other, a whole cell away
 exchanged : Carries 4 inversion one_quarter three_quarters
@@ -80,8 +80,8 @@ three_quarters_is_not_origin a = by a.operation a.of_list a.carries
     by o (inr (inr m)) d = absurd m
 
 -- the identity alone leaves 1/4 0 0
-site_of_quarter : ListsSite 4 both one_quarter (nothing ∷ [])
-site_of_quarter = record { increasing = (tt, tt); exact = λ o. (to o, from o) }
+atom_of_quarter : ListsSite 4 both one_quarter (nothing ∷ [])
+atom_of_quarter = record { increasing = (tt, tt); exact = λ o. (to o, from o) }
   where
     to : (o : Operation) → IsMember o (nothing ∷ []) → IsFixedBy 4 both one_quarter o
     to o (inl e) = (inr (inl e), subst (λ (x : Operation). Carries 4 x one_quarter one_quarter) (sym e) (record { cells = at (pos 0) (pos 0) (pos 0); is = refl }))
@@ -97,24 +97,24 @@ orbit_of_two : CountsOrbit crystal both one_quarter 2
 orbit_of_two = record { atoms = atom 1 one_quarter ∷ atom 1 three_quarters ∷ []; once = (apart, (λ m. absurd m, tt)); exact = λ a. (to a, from a); is = refl }
   where
     apart : IsMember (atom 1 one_quarter) (atom 1 three_quarters ∷ []) → ⊥
-    apart (inl e) = let f : pos 1 ≡ pos 3 = ap (λ (x : Site). x.position.x) e in cc f
+    apart (inl e) = let f : pos 1 ≡ pos 3 = ap (λ (x : Atom). x.position.x) e in cc f
     apart (inr m) = absurd m
 
-    to : (a : Site) → IsMember a (atom 1 one_quarter ∷ atom 1 three_quarters ∷ []) → IsInOrbit crystal both one_quarter a
-    to a (inl e) = (inr (inl e), subst (λ (x : Site). IsAlike 4 both one_quarter x.position) (sym e) (record { operation = nothing; of_list = inr (inl refl); carries = record { cells = at (pos 0) (pos 0) (pos 0); is = refl } }))
-    to a (inr (inl e)) = (inr (inr (inl e)), subst (λ (x : Site). IsAlike 4 both one_quarter x.position) (sym e) alike)
+    to : (a : Atom) → IsMember a (atom 1 one_quarter ∷ atom 1 three_quarters ∷ []) → IsInOrbit crystal both one_quarter a
+    to a (inl e) = (inr (inl e), subst (λ (x : Atom). IsAlike 4 both one_quarter x.position) (sym e) (record { operation = nothing; of_list = inr (inl refl); carries = record { cells = at (pos 0) (pos 0) (pos 0); is = refl } }))
+    to a (inr (inl e)) = (inr (inr (inl e)), subst (λ (x : Atom). IsAlike 4 both one_quarter x.position) (sym e) alike)
     to a (inr (inr m)) = absurd m
 
-    from : (a : Site) → IsInOrbit crystal both one_quarter a → IsMember a (atom 1 one_quarter ∷ atom 1 three_quarters ∷ [])
-    from a (inl e, l) = absurd (quarter_is_not_origin (subst (λ (x : Site). IsAlike 4 both one_quarter x.position) e l))
+    from : (a : Atom) → IsInOrbit crystal both one_quarter a → IsMember a (atom 1 one_quarter ∷ atom 1 three_quarters ∷ [])
+    from a (inl e, l) = absurd (quarter_is_not_origin (subst (λ (x : Atom). IsAlike 4 both one_quarter x.position) e l))
     from a (inr (inl e), l) = inl e
     from a (inr (inr (inl e)), l) = inr (inl e)
     from a (inr (inr (inr m)), l) = absurd m
 
 -- and the first atom that is alike to the last is the second of the three, number 1 from 0
 first_of_two : IsFirstAlike crystal identity both three_quarters 1
-first_of_two = record { site = atom 1 one_quarter; is_site = refl; alike = record { operation = inversion; of_list = inl refl; carries = record { cells = at (negsuc 0) (pos 0) (pos 0); is = refl } }; least = least }
+first_of_two = record { atom = atom 1 one_quarter; is_atom = refl; alike = record { operation = inversion; of_list = inl refl; carries = record { cells = at (negsuc 0) (pos 0) (pos 0); is = refl } }; least = least }
   where
-    least : (j : ℕ) (a : Site) → slice_get crystal.sites j ≡ Some a → IsAlike 4 both three_quarters (image identity a.position) → 1 ≤ j
-    least zero a e l = let f : origin_atom ≡ a = cc e in absurd (three_quarters_is_not_origin (subst (λ (x : Site). IsAlike 4 both three_quarters (image identity x.position)) (sym f) l))
+    least : (j : ℕ) (a : Atom) → slice_get crystal.atoms j ≡ Some a → IsAlike 4 both three_quarters (image identity a.position) → 1 ≤ j
+    least zero a e l = let f : origin_atom ≡ a = cc e in absurd (three_quarters_is_not_origin (subst (λ (x : Atom). IsAlike 4 both three_quarters (image identity x.position)) (sym f) l))
     least (suc j) a e l = omega arith

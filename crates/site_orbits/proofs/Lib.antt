@@ -1,4 +1,4 @@
-pub mod Carrying
+pub mod CarriedPositions
 pub mod Equivalence
 mod Counting
 mod Stabilizer

@@ -10,7 +10,7 @@ use Rattle.lists.proofs.Increasing.{increasing_distinct}
 use Rattle.lists.proofs.Counting.{length_le}
 use Rattle.lists.proofs.Pairs.{pairs, pair_of, pair_member, pairs_length, OneToOne, pairs_distinct}
 use Rattle.crystal_spec.specs.Matrices.{Triple}
-use Rattle.crystal_spec.specs.Crystals.{Site, Structure, Occupied, position_after}
+use Rattle.crystal_spec.specs.Crystals.{Atom, Structure, Occupied, position_after}
 use Rattle.crystal_spec.specs.Operations.{Operation, compare_of, ListsAll}
 use Rattle.crystal_spec.specs.Cells.{DiffersByCells, HasOneAtomEach}
 use Rattle.crystal_spec.proofs.Ordered.{compare_total}
@@ -20,7 +20,7 @@ use Rattle.op_group.specs.Groups.{IsGroupModulo}
 use Rattle.op_group.proofs.Composing.{composed_once, composed_associates, identity_next}
 use Rattle.op_group.proofs.GroupLaws.{composed_member, composition, composition_is}
 use Rattle.site_orbits.specs.Orbits.{Carries, IsAlike, IsFixedBy, ListsSite, CountsOrbit}
-use Rattle.site_orbits.proofs.Carrying.{carries_as}
+use Rattle.site_orbits.proofs.CarriedPositions.{carries_as}
 use Rattle.site_orbits.proofs.Equivalence.{carries_composed, carries_back}
 
 -- ---- one member for each atom
@@ -28,30 +28,30 @@ use Rattle.site_orbits.proofs.Equivalence.{carries_composed, carries_back}
 carried_once : {n : ℕ} (o : Operation) (p : Triple) {q u : Triple} → Carries n o p q → Carries n o p u → DiffersByCells n q u
 carried_once o p f g = differs_trans (differs_sym f) g
 
-record Reached (n : ℕ) (o : Operation) (p : Triple) (atoms : List Site) : Type 0 where
-  atom : Site
+record Reached (n : ℕ) (o : Operation) (p : Triple) (atoms : List Atom) : Type 0 where
+  atom : Atom
   of_list : IsMember atom atoms
   carries : Carries n o p atom.position
 
-record Chosen (n : ℕ) (list : List Operation) (p : Triple) (a : Site) : Type 0 where
+record Chosen (n : ℕ) (list : List Operation) (p : Triple) (a : Atom) : Type 0 where
   operation : Operation
   of_list : IsMember operation list
   carries : Carries n operation p a.position
 
-record Choice (n : ℕ) (os : List Operation) (p : Triple) (atoms : List Site) : Type 0 where
+record Choice (n : ℕ) (os : List Operation) (p : Triple) (atoms : List Atom) : Type 0 where
   list : List Operation
   once : IsDistinct list
   same_length : length list ≡ length atoms
   members : (o : Operation) → IsMember o list → IsMember o os
   reaches : (o : Operation) → IsMember o list → Reached n o p atoms
-  chosen : (a : Site) → IsMember a atoms → Chosen n list p a
+  chosen : (a : Atom) → IsMember a atoms → Chosen n list p a
   one : (a b : Operation) (q : Triple) → IsMember a list → IsMember b list → Carries n a p q → Carries n b p q → a ≡ b
 
 -- no two atoms are at one position, but for whole cells
-abbrev IsApart : ℕ → List Site → Type 0
-IsApart n atoms = (a b : Site) → IsMember a atoms → IsMember b atoms → DiffersByCells n a.position b.position → a ≡ b
+abbrev IsApart : ℕ → List Atom → Type 0
+IsApart n atoms = (a b : Atom) → IsMember a atoms → IsMember b atoms → DiffersByCells n a.position b.position → a ≡ b
 
-choice_more : (n : ℕ) (os : List Operation) (p : Triple) (x : Site) (atoms : List Site) → (IsMember x atoms → ⊥) → IsApart n (x ∷ atoms) → IsAlike n os p x.position → Choice n os p atoms → Choice n os p (x ∷ atoms)
+choice_more : (n : ℕ) (os : List Operation) (p : Triple) (x : Atom) (atoms : List Atom) → (IsMember x atoms → ⊥) → IsApart n (x ∷ atoms) → IsAlike n os p x.position → Choice n os p atoms → Choice n os p (x ∷ atoms)
 choice_more n os p x atoms fresh apart to_x rest = record {
   list = first ∷ rest.list;
   once = (new, rest.once);
@@ -70,7 +70,7 @@ choice_more n os p x atoms fresh apart to_x rest = record {
     other b q m f g =
         let r = rest.reaches b m in
         let e : x ≡ r.atom = apart x r.atom (inl refl) (inr r.of_list) (differs_trans (carried_once first p to_x.carries f) (carried_once b p g r.carries)) in
-        fresh (subst (λ (a : Site). IsMember a atoms) (sym e) r.of_list)
+        fresh (subst (λ (a : Atom). IsMember a atoms) (sym e) r.of_list)
 
     new : IsMember first rest.list → ⊥
     new m = other first x.position m to_x.carries to_x.carries
@@ -83,8 +83,8 @@ choice_more n os p x atoms fresh apart to_x rest = record {
     reaches o (inl e) = record { atom = x; of_list = inl refl; carries = subst (λ (a : Operation). Carries n a p x.position) (sym e) to_x.carries }
     reaches o (inr m) = let r = rest.reaches o m in record { atom = r.atom; of_list = inr r.of_list; carries = r.carries }
 
-    chosen : (a : Site) → (a ≡ x) ⊎ IsMember a atoms → Chosen n (first ∷ rest.list) p a
-    chosen a (inl e) = record { operation = first; of_list = inl refl; carries = subst (λ (b : Site). Carries n first p b.position) (sym e) to_x.carries }
+    chosen : (a : Atom) → (a ≡ x) ⊎ IsMember a atoms → Chosen n (first ∷ rest.list) p a
+    chosen a (inl e) = record { operation = first; of_list = inl refl; carries = subst (λ (b : Atom). Carries n first p b.position) (sym e) to_x.carries }
     chosen a (inr m) = let r = rest.chosen a m in record { operation = r.operation; of_list = inr r.of_list; carries = r.carries }
 
     one : (a b : Operation) (q : Triple) → (a ≡ first) ⊎ IsMember a rest.list → (b ≡ first) ⊎ IsMember b rest.list → Carries n a p q → Carries n b p q → a ≡ b
@@ -93,7 +93,7 @@ choice_more n os p x atoms fresh apart to_x rest = record {
     one a b q (inr m) (inl e) f g = absurd (other a q m (subst (λ (o : Operation). Carries n o p q) e g) f)
     one a b q (inr m) (inr k) f g = rest.one a b q m k f g
 
-choice : (n : ℕ) (os : List Operation) (p : Triple) (atoms : List Site) → IsDistinct atoms → IsApart n atoms → ((a : Site) → IsMember a atoms → IsAlike n os p a.position) → Choice n os p atoms
+choice : (n : ℕ) (os : List Operation) (p : Triple) (atoms : List Atom) → IsDistinct atoms → IsApart n atoms → ((a : Atom) → IsMember a atoms → IsAlike n os p a.position) → Choice n os p atoms
 choice n os p [] d apart alike = record { list = []; once = tt; same_length = refl; members = λ o m. absurd m; reaches = λ o m. absurd m; chosen = λ a m. absurd m; one = λ a b q m k f g. absurd m }
 choice n os p (x ∷ atoms) d apart alike =
     choice_more n os p x atoms d.0 apart (alike x (inl refl)) (choice n os p atoms d.1 (λ a b m k e. apart a b (inr m) (inr k) e) (λ a m. alike a (inr m)))
@@ -121,7 +121,7 @@ module _ (n : ℕ) (os : List Operation) (p : Triple) (at_least : 1 ≤ n) (g : 
   both_carry : (a s : Operation) (q : Triple) → IsMember s site → Carries n a p q → Carries n (both a s) p q
   both_carry a s q m f = carries_composed s a (both a s) p (both_is a s) (exact s m).1 f
 
-  module _ (atoms : List Site) (k : Choice n os p atoms) (reached : (o : Operation) → IsMember o os → Reached n o p atoms) where
+  module _ (atoms : List Atom) (k : Choice n os p atoms) (reached : (o : Operation) → IsMember o os → Reached n o p atoms) where
     where_to : Operation → Triple
     where_to a = position_after a.matrix a.translation p
 
@@ -180,5 +180,5 @@ orbit_stabilizer c os s p m k site at_least one all g occupied orbit fixed =
     reached : (o : Operation) → IsMember o os → Reached c.n o p orbit.atoms
     reached o mo =
         let to = (((all.exact o).0 mo).keeps.crystal s p m).0 occupied in
-        let carries : Carries c.n o p to.site.position = record { cells = to.cells; is = to.same_position } in
-        record { atom = to.site; of_list = (orbit.exact to.site).1 (to.of_cell, record { operation = o; of_list = mo; carries = carries }); carries = carries }
+        let carries : Carries c.n o p to.atom.position = record { cells = to.cells; is = to.same_position } in
+        record { atom = to.atom; of_list = (orbit.exact to.atom).1 (to.of_cell, record { operation = o; of_list = mo; carries = carries }); carries = carries }

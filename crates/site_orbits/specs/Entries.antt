@@ -1,11 +1,12 @@
 -- The orbits of the atoms of a cell.
 --   AtomOrbit                  the first alike atom, the size of the orbit and the site-symmetry group of an atom
---   IsOrbitOf c r b os p o     o is that of the position p in the primitive cell b, for the atoms of c
---   IsOrbitAt c r b os i o     it is that of the atom number i of c
---   HaveOrbits c r b os orbits the orbits of the list are those of the atoms of c, in order
-use Rattle.std.specs.Prelude.{◌≡◌, ℕ, ◌*◌, List, length, slice_get, Some}
+--   IsOrbitOf c q b os p o     o is that of the position p in the primitive cell b, for the atoms of c
+--   IsOrbitAt c q b os i o     it is that of the atom number i of c
+--   HaveOrbits c q b os orbits the orbits of the list are those of the atoms of c, in order
+--   AreFirstsBelow orbits      each first alike atom is one of the list
+use Rattle.std.specs.Prelude.{◌≡◌, ◌<◌, ℕ, ◌*◌, List, length, slice_get, Some}
 use Rattle.crystal_spec.specs.Matrices.{Triple, Matrix, image}
-use Rattle.crystal_spec.specs.Crystals.{Site, Structure}
+use Rattle.crystal_spec.specs.Crystals.{Atom, Structure}
 use Rattle.crystal_spec.specs.Operations.{Operation}
 use Rattle.op_group.specs.Lists.{OperationList}
 use Rattle.site_orbits.specs.Orbits.{IsFirstAlike, CountsOrbit, ListsSite}
@@ -15,18 +16,22 @@ pub record AtomOrbit : Type 0 where
   pub size : ℕ
   pub site : OperationList
 
--- R takes coordinates of c to those in b. The size of the orbit times the count of the site is the count of the operations.
-pub record IsOrbitOf (c : Structure) (r : Matrix) (b : Structure) (os : List Operation) (p : Triple) (o : AtomOrbit) : Type 0 where
-  pub first : IsFirstAlike c r os p o.first
+-- Q takes coordinates of c to those in b. The size of the orbit times the count of the site is the count of the operations.
+pub record IsOrbitOf (c : Structure) (q : Matrix) (b : Structure) (os : List Operation) (p : Triple) (o : AtomOrbit) : Type 0 where
+  pub first : IsFirstAlike c q os p o.first
   pub size : CountsOrbit b os p o.size
   pub same_n : o.site.n ≡ b.n
   pub site : ListsSite b.n os p o.site.operations
   pub product : o.size * length o.site.operations ≡ length os
 
--- of the atom number i, at its position in the basis to which R takes coordinates
+-- of the atom number i, at its position in the basis to which Q takes coordinates
 abbrev pub IsOrbitAt : Structure → Matrix → Structure → List Operation → ℕ → AtomOrbit → Type 0
-IsOrbitAt c r b os i o = (a : Site) → slice_get c.sites i ≡ Some a → IsOrbitOf c r b os (image r a.position) o
+IsOrbitAt c q b os i o = (a : Atom) → slice_get c.atoms i ≡ Some a → IsOrbitOf c q b os (image q a.position) o
 
 -- of each atom
 abbrev pub HaveOrbits : Structure → Matrix → Structure → List Operation → List AtomOrbit → Type 0
-HaveOrbits c r b os orbits = (i : ℕ) (o : AtomOrbit) → slice_get orbits i ≡ Some o → IsOrbitAt c r b os i o
+HaveOrbits c q b os orbits = (i : ℕ) (o : AtomOrbit) → slice_get orbits i ≡ Some o → IsOrbitAt c q b os i o
+
+-- the number of each first alike atom is that of an atom of the list
+abbrev pub AreFirstsBelow : List AtomOrbit → Type 0
+AreFirstsBelow orbits = (i : ℕ) (o : AtomOrbit) → slice_get orbits i ≡ Some o → o.first < length orbits

@@ -5,14 +5,14 @@
 --   ListsSite n os p site      site is the strictly increasing list of exactly these
 --   IsInOrbit c os p a         a is an atom of c to whose position members carry p
 --   CountsOrbit c os p k       k is how many such atoms there are
---   IsFirstAlike c r os p i    the atom number i of c is the first to whose position, in the basis to which R takes
+--   IsFirstAlike c r os p i    the atom number i of c is the first to whose position, in the basis to which r takes
 --                              coordinates, members carry p
 --   IsEquivalence alike        being alike is reflexive, symmetric and transitive
 --   HasOneSpecies c r alike    atoms of c with alike positions in that basis are of one species
 use Rattle.std.specs.Prelude.{◌≡◌, ◌↔◌, ℕ, ◌≤◌, List, length, slice_get, Some}
 use Rattle.lists.specs.Increasing.{IsIncreasing, IsMember, IsDistinct}
 use Rattle.crystal_spec.specs.Matrices.{Triple, Matrix, image}
-use Rattle.crystal_spec.specs.Crystals.{Site, Structure, position_after}
+use Rattle.crystal_spec.specs.Crystals.{Atom, Structure, position_after}
 use Rattle.crystal_spec.specs.Operations.{Operation, compare_of}
 use Rattle.crystal_spec.specs.Cells.{DiffersByCells}
 
@@ -36,22 +36,22 @@ pub record ListsSite (n : ℕ) (os : List Operation) (p : Triple) (site : List O
   pub exact : (o : Operation) → IsMember o site ↔ IsFixedBy n os p o
 
 -- an atom to whose position members carry p
-abbrev pub IsInOrbit : Structure → List Operation → Triple → Site → Type 0
-IsInOrbit c os p a = IsMember a c.sites × IsAlike c.n os p a.position
+abbrev pub IsInOrbit : Structure → List Operation → Triple → Atom → Type 0
+IsInOrbit c os p a = IsMember a c.atoms × IsAlike c.n os p a.position
 
 -- the length of a list that has each of these atoms once, and no other
 pub record CountsOrbit (c : Structure) (os : List Operation) (p : Triple) (k : ℕ) : Type 0 where
-  pub atoms : List Site
+  pub atoms : List Atom
   pub once : IsDistinct atoms
-  pub exact : (a : Site) → IsMember a atoms ↔ IsInOrbit c os p a
+  pub exact : (a : Atom) → IsMember a atoms ↔ IsInOrbit c os p a
   pub is : k ≡ length atoms
 
 -- members carry p to the position of atom number i, and those atoms to whose positions they carry it have no lesser number
 pub record IsFirstAlike (c : Structure) (r : Matrix) (os : List Operation) (p : Triple) (i : ℕ) : Type 0 where
-  pub site : Site
-  pub is_site : slice_get c.sites i ≡ Some site
-  pub alike : IsAlike c.n os p (image r site.position)
-  pub least : (j : ℕ) (a : Site) → slice_get c.sites j ≡ Some a → IsAlike c.n os p (image r a.position) → i ≤ j
+  pub atom : Atom
+  pub is_atom : slice_get c.atoms i ≡ Some atom
+  pub alike : IsAlike c.n os p (image r atom.position)
+  pub least : (j : ℕ) (a : Atom) → slice_get c.atoms j ≡ Some a → IsAlike c.n os p (image r a.position) → i ≤ j
 
 pub record IsEquivalence (alike : Triple → Triple → Type 0) : Type 0 where
   pub reflexive : (p : Triple) → alike p p
@@ -60,4 +60,4 @@ pub record IsEquivalence (alike : Triple → Triple → Type 0) : Type 0 where
 
 -- no two species are in one orbit
 abbrev pub HasOneSpecies : Structure → Matrix → (Triple → Triple → Type 0) → Type 0
-HasOneSpecies c r alike = (a b : Site) → IsMember a c.sites → IsMember b c.sites → alike (image r a.position) (image r b.position) → a.species ≡ b.species
+HasOneSpecies c r alike = (a b : Atom) → IsMember a c.atoms → IsMember b c.atoms → alike (image r a.position) (image r b.position) → a.species ≡ b.species

@@ -4,7 +4,7 @@ ghost use Rattle.std.specs.Prelude.{◌≡◌, ◌<◌, length, IfOk};
 ghost use Rattle.crystal_spec.specs.Operations.{ListsAll};
 ghost use Rattle.basis_spec.specs.Bases.{cell_in_basis, IsPrimitiveIn};
 ghost use Rattle.site_orbits.specs.Orbits.{IsAlike, IsEquivalence, HasOneSpecies};
-ghost use Rattle.site_orbits.specs.Entries.{IsOrbitAt, HaveOrbits};
+ghost use Rattle.site_orbits.specs.Entries.{IsOrbitAt, HaveOrbits, AreFirstsBelow};
 
 use crate::atom_orbits::{Entry, Orbits};
 use crate::images::{count_among, first_among, fixing, images};
@@ -26,12 +26,12 @@ fn orbit_of(
     requires same_cell { cell_in_basis cell.now prim.now.back ≡ prim.now.cell }
     requires n { list.now.n ≡ prim.now.cell.n }
     requires group { ListsAll prim.now.cell list.now.operations }
-    requires below { i < length cell.now.sites }
+    requires below { i < length cell.now.atoms }
     ensures { IfOk result (λ orbit. IsOrbitAt cell.now prim.now.back prim.now.cell list.now.operations i orbit) }
 {
-    let _index = prim.index();
-    let _count = cell.count();
-    let _form = prim.cell().count();
+    prim.invariant();
+    cell.invariant();
+    prim.cell().invariant();
     let place = MatrixModulo::new(prim.back(), cell.n()).image(cell.atom(i).place);
     let images = images(alloc, list, place)?;
     let first = first_among(cell, prim.back(), &images, i);
@@ -54,12 +54,13 @@ pub fn orbits(
     requires same_cell { cell_in_basis cell.now prim.now.back ≡ prim.now.cell }
     requires n { list.now.n ≡ prim.now.cell.n }
     requires group { ListsAll prim.now.cell list.now.operations }
-    ensures count { IfOk result (λ found. length found ≡ length cell.now.sites) }
+    ensures count { IfOk result (λ found. length found ≡ length cell.now.atoms) }
+    ensures firsts { IfOk result (λ found. AreFirstsBelow found) }
     ensures exact { IfOk result (λ found. HaveOrbits cell.now prim.now.back prim.now.cell list.now.operations found) }
     ensures equivalence { IsEquivalence (IsAlike cell.now.n list.now.operations) }
     ensures one_species { HasOneSpecies cell.now prim.now.back (IsAlike cell.now.n list.now.operations) }
 {
-    let _form = prim.cell().count();
+    prim.cell().invariant();
     let mut entries = Vec::new(alloc);
     for i in 0..cell.count() {
         entries.push(orbit_of(alloc, cell, prim, list, i)?)?;

@@ -6,7 +6,8 @@ ghost use Rattle.crystal_spec.specs.Operations.{Operation, compare_of};
 ghost use Rattle.positions.specs.Positions.{triple_of};
 ghost use Rattle.matrix3.specs.Bounds.{EntriesAtMost};
 ghost use Rattle.op_group.specs.Views.{operation_of};
-ghost use Rattle.site_orbits.specs.Images.{image_within, HasSmallEntries, atoms_at, IsFirstAmong};
+ghost use Rattle.site_orbits.specs.Images.{image_within, atoms_at, IsFirstAmong};
+ghost use Rattle.op_group.specs.Lists.{HasEntriesAtMost};
 
 use crate::position::{carried, is_same};
 use crystal::Cell;
@@ -24,7 +25,7 @@ pub(crate) fn images(
     list: &OpList,
     place: [u32; 3],
 ) -> Result<Vec<[u32; 3]>, AllocError>
-    requires small { HasSmallEntries list.now.operations }
+    requires small { HasEntriesAtMost 1 list.now.operations }
     requires at_least { 1 ≤ list.now.n }
     requires at_most { list.now.n ≤ 10 ^ 6 }
     ensures { IfOk result (λ images. map triple_of images.items ≡ map (image_within list.now.n (triple_of place)) list.now.operations) }
@@ -50,13 +51,13 @@ fn is_among(images: &[[u32; 3]], place: [u32; 3]) -> bool
     false
 }
 
-/// The number of the first atom whose position in the basis to which R takes coordinates is one of the images, or `i` where
+/// The number of the first atom whose position in the basis to which Q takes coordinates is one of the images, or `i` where
 /// none before the atom number i is.
 pub(crate) fn first_among(cell: &Cell, r: &Mat3<Int>, images: &[[u32; 3]], i: usize) -> usize
-    requires below { i < length cell.now.sites }
-    ensures { IsFirstAmong cell.now.n r.now (map triple_of images.now) cell.now.sites i result }
+    requires below { i < length cell.now.atoms }
+    ensures { IsFirstAmong cell.now.n r.now (map triple_of images.now) cell.now.atoms i result }
 {
-    let _form = cell.count();
+    cell.invariant();
     let basis = MatrixModulo::new(r, cell.n());
     for j in 0..i {
         if is_among(images, basis.image(cell.atom(j).place)) {
@@ -68,7 +69,7 @@ pub(crate) fn first_among(cell: &Cell, r: &Mat3<Int>, images: &[[u32; 3]], i: us
 
 /// How many atoms of the cell are at one of the images.
 pub(crate) fn count_among(cell: &Cell, images: &[[u32; 3]]) -> u32
-    ensures { result ≡ length (atoms_at (map triple_of images.now) cell.now.sites) }
+    ensures { result ≡ length (atoms_at (map triple_of images.now) cell.now.atoms) }
 {
     let mut count = 0;
     for i in 0..cell.count() {
@@ -96,7 +97,7 @@ fn add_fixing(op: &Op, place: [u32; 3], n: u32, found: &mut Vec<Op>) -> Result<(
 ///
 /// Refuses for want of memory alone.
 pub(crate) fn fixing(alloc: Global, list: &OpList, place: [u32; 3]) -> Result<OpList, AllocError>
-    requires small { HasSmallEntries list.now.operations }
+    requires small { HasEntriesAtMost 1 list.now.operations }
     requires at_least { 1 ≤ list.now.n }
     requires at_most { list.now.n ≤ 10 ^ 6 }
     ensures n { IfOk result (λ site. site.n ≡ list.now.n) }
@@ -104,13 +105,13 @@ pub(crate) fn fixing(alloc: Global, list: &OpList, place: [u32; 3]) -> Result<Op
     ensures exact { IfOk result (λ site. (o : Operation) → IsMember o site.operations ↔ (IsMember o list.now.operations × (image_within list.now.n (triple_of place) o ≡ triple_of place))) }
 {
     let n = list.n();
-    let _count = list.count();
+    list.invariant();
     let ops = list.ops();
     let mut found = Vec::new(alloc);
     for op in ops {
         add_fixing(op, place, n, &mut found)?;
     }
-    let site = OpList::sorted(n, found);
-    let _ordered = site.count();
+    let site = OpList::sorted(n, found)?;
+    site.invariant();
     Ok(site)
 }

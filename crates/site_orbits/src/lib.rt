@@ -2,7 +2,7 @@
 //!
 //! Two atoms are symmetry-equivalent, or alike, where an operation carries the position of the one to that of the other, but
 //! for whole cells. Operations and site-symmetry groups are in the basis of the primitive cell, atoms those of the cell that
-//! it was made of; R is Q = P⁻¹, which takes coordinates in the cell to those in the primitive cell. Positions and
+//! it was made of; Q is P⁻¹, which takes coordinates in the cell to those in the primitive cell. Positions and
 //! translation parts are in units of 1/n. The definitions are those of crystal_spec and basis_spec, and specs/Orbits.antt.
 #![tactic(auto)]
 

@@ -7,7 +7,7 @@ use Rattle.ring.specs.Ring.{var, quoted, ◌:*◌}
 use Rattle.ring.proofs.IntOrder.{mul_pos}
 use Rattle.matrix3.specs.Matrices.{entries, coordinates, matrix_of_variables, vector_of_variables}
 use Rattle.crystal_spec.specs.Matrices.{Triple, image, determinant, adjugate, multiple, sum_of, difference}
-use Rattle.crystal_spec.specs.Crystals.{Site, Structure}
+use Rattle.crystal_spec.specs.Crystals.{Atom, Structure}
 use Rattle.crystal_spec.proofs.Identities.{by_triples}
 use Rattle.basis_spec.proofs.Cancelling.{mul_cancel, multiple_cancel}
 use Rattle.match_spec.specs.Points.{point, IsPoint, IsInCell, IsWhole}
@@ -88,7 +88,7 @@ copies_ordered f s frame above t v b d before h k = before_less (coordinates b.p
     by (inr (e, inr (i, inr (j, m)))) = absurd m
 
 -- a copy at a triple is one atom
-pub copy_once : (f : Frame) (s : Copies) (t : Triple) (b d : Site) → pos 0 <ℤ s.divisor → IsCopy f s t b → IsCopy f s t d → d ≡ b
+pub copy_once : (f : Frame) (s : Copies) (t : Triple) (b d : Atom) → pos 0 <ℤ s.divisor → IsCopy f s t b → IsCopy f s t d → d ≡ b
 copy_once f s t b d above h k =
     let position = multiple_cancel s.divisor d.position b.position above (k.position ∙ sym h.position) in
     λ i. record { species = (k.species ∙ sym h.species) i; position = position i; moment = (k.moment ∙ sym h.moment) i }
@@ -121,20 +121,20 @@ met_source : (f : Frame) → IsFrame f → (w x : Triple) (m : Meets f w x) → 
 met_source f frame w x m = meets_source f.turn (pos f.index) (step_of f) x w m.quotient frame.index (index_above f frame) m.is
 
 -- so the divisor of the places divides it
-pub met_whole : (c : Structure) (f : Frame) → IsFrame f → f.n ≡ c.n → (g : ℤ) (sites : List Site) → IsPlaceDivisor c f.turn (origin_of f) sites g → (a : Site) → IsMember a sites → (x : Triple) → Meets f (goal_of f a.position) x → IsWhole g x
-met_whole c f frame same g sites h a of_cell x m =
+pub met_whole : (c : Structure) (f : Frame) → IsFrame f → f.n ≡ c.n → (g : ℤ) (copies : List Atom) → IsPlaceDivisor c f.turn (origin_of f) copies g → (a : Atom) → IsMember a copies → (x : Triple) → Meets f (goal_of f a.position) x → IsWhole g x
+met_whole c f frame same g copies h a of_cell x m =
     whole_is g x (sum_of (image (adjugate f.turn) (goal_of f a.position)) (multiple (step_of f) (image (adjugate f.turn) m.quotient))) (met_source f frame (goal_of f a.position) x m)
     (whole_plus g (image (adjugate f.turn) (goal_of f a.position)) (multiple (step_of f) (image (adjugate f.turn) m.quotient))
     (subst (λ (n : ℕ). IsWhole g (image (adjugate f.turn) (difference (multiple f.parts a.position) (multiple (pos n) f.shift)))) (sym same) (h.places a of_cell))
     (subst (λ (n : ℕ). IsWhole g (multiple (pos n *ℤ f.parts) (image (adjugate f.turn) m.quotient))) (sym same) (h.steps m.quotient)))
 
-module _ (c : Structure) (f : Frame) (s : Copies) (a : Site) (m : ℕ) (frame : IsFrame f) (copies : IsCopies f s) (is : AreCopiesOf c f s a m) where
+module _ (c : Structure) (f : Frame) (s : Copies) (a : Atom) (m : ℕ) (frame : IsFrame f) (copies : IsCopies f s) (is : AreCopiesOf c f s a m) where
   -- m (g b) = e b
   scaled : (g : ℤ) (x : Triple) → full_of f ≡ g *ℤ pos m → multiple (pos m) (multiple g x) ≡ multiple (full_of f) x
   scaled g x e = by_triples (pos m ∷ g ∷ coordinates x) (formulas.multiple quoted (var 0) (formulas.multiple quoted (var 1) (vector_of_variables 2))) (formulas.multiple quoted (var 1 :* var 0) (vector_of_variables 2)) refl ∙ ap (λ (z : ℤ). multiple z x) (sym e)
 
   -- a copy is an atom of a
-  copy_atom : (t : Triple) (b : Site) → IsInSpace f.index f.index t → IsCopy f s t b → IsAtomOf c f.turn (origin_of f) m a b
+  copy_atom : (t : Triple) (b : Atom) → IsInSpace f.index f.index t → IsCopy f s t b → IsAtomOf c f.turn (origin_of f) m a b
   copy_atom t b space h =
       let x = point_at f s.start t in
       let same : multiple (pos m) x ≡ multiple (full_of f) b.position = ap (multiple (pos m)) (sym h.position) ∙ scaled s.divisor b.position is.parts in
@@ -157,7 +157,7 @@ module _ (c : Structure) (f : Frame) (s : Copies) (a : Site) (m : ℕ) (frame : 
   cells_more r k l = by_triples (step_of f ∷ coordinates r ++ coordinates k ++ coordinates l) (formulas.sum_of quoted (formulas.sum_of quoted (vector_of_variables 1) (formulas.multiple quoted (var 0) (vector_of_variables 4))) (formulas.multiple quoted (var 0) (vector_of_variables 7))) (formulas.sum_of quoted (vector_of_variables 1) (formulas.multiple quoted (var 0) (formulas.sum_of quoted (vector_of_variables 4) (vector_of_variables 7)))) refl
 
   -- and each atom of a is a copy
-  atom_copy : (b : Site) → IsAtomOf c f.turn (origin_of f) m a b → (t : Triple) × (IsInSpace f.index f.index t × IsCopy f s t b)
+  atom_copy : (b : Atom) → IsAtomOf c f.turn (origin_of f) m a b → (t : Triple) × (IsInSpace f.index f.index t × IsCopy f s t b)
   atom_copy b h =
       let k = h.place.away.cells in
       let x = multiple s.divisor b.position in
@@ -182,7 +182,7 @@ module _ (c : Structure) (f : Frame) (s : Copies) (a : Site) (m : ℕ) (frame : 
       )
 
   -- so the copies in order are the block of a
-  pub copies_block : (block : List Site) → IsSweep (IsCopy f s) (IsInSpace f.index f.index) block → IsBlock c f.turn (origin_of f) m a block
+  pub copies_block : (block : List Atom) → IsSweep (IsCopy f s) (IsInSpace f.index f.index) block → IsBlock c f.turn (origin_of f) m a block
   copies_block block h = record {
     increasing = h.increasing;
     exact = λ b. ((λ k. let r = h.into b k in copy_atom r.0 b r.1.0 r.1.1), (λ k. let r = atom_copy b k in h.onto b r.0 r.1.0 r.1.1));

@@ -8,7 +8,7 @@ use Rattle.ring.specs.Ring.{var, con, quoted, ◌:+◌, ◌:-◌, ◌:*◌}
 use Rattle.ring.proofs.IntOrder.{mul_pos, mul_nonneg, le_by}
 use Rattle.matrix3.specs.Matrices.{entries, coordinates, matrix_of_variables, vector_of_variables}
 use Rattle.crystal_spec.specs.Matrices.{Triple, Matrix, image, determinant, adjugate, multiple, sum_of, difference}
-use Rattle.crystal_spec.specs.Crystals.{Site, Structure}
+use Rattle.crystal_spec.specs.Crystals.{Atom, Structure}
 use Rattle.crystal_spec.proofs.Identities.{by_integers, by_triples}
 use Rattle.crystal_spec.specs.Cells.{DiffersByCells}
 use Rattle.basis_spec.proofs.MatrixLaws.{multiple_swap, multiple-multiple}
@@ -16,12 +16,12 @@ use Rattle.basis_spec.proofs.Cancelling.{mul_cancel, multiple_cancel}
 use Rattle.basis_spec.proofs.Positive.{pos_of_mul}
 use Rattle.match_spec.specs.Points.{Point, point, IsPoint, IsWhole}
 use Rattle.match_spec.proofs.Wholes.{whole_is, whole_plus, whole_minus, whole_times}
-use Rattle.standard_cell.specs.Places.{IsPlaceOf, IsCommonDenominator, IsLeastDenominator}
+use Rattle.standard_cell.specs.BasisPlaces.{IsPlaceOf, IsCommonDenominator, IsLeastDenominator}
 use Rattle.standard_cell.specs.PlaceDivisors.{source, full, place_of, cells_of, IsPlaceDivisor}
 use Rattle.standard_cell.proofs.Links.{IsLink, link_moved, link_source, link_same, folded}
 use Rattle.standard_cell.proofs.Placed.{two_cells}
 
-module _ (c : Structure) (q : Matrix) (p : Point) (above : pos 0 <ℤ determinant q) (some : pos 0 <ℤ pos c.n) (is_p : IsPoint p) (first : Site) (of_first : IsMember first c.sites) where
+module _ (c : Structure) (q : Matrix) (p : Point) (above : pos 0 <ℤ determinant q) (some : pos 0 <ℤ pos c.n) (is_p : IsPoint p) (first : Atom) (of_first : IsMember first c.atoms) where
   abbrev e : ℤ
   e = full q p (pos c.n)
 
@@ -43,7 +43,7 @@ module _ (c : Structure) (q : Matrix) (p : Point) (above : pos 0 <ℤ determinan
           (formulas.sum_of quoted (formulas.image quoted q' (formulas.difference quoted (formulas.multiple quoted (var 1) a') (formulas.multiple quoted (var 0) u'))) (formulas.multiple quoted (var 0 :* var 1) (formulas.image quoted q' z'))) refl
 
   -- where m times each place is whole, so is m times each numerator over e
-  whole_place : (m : ℕ) → IsCommonDenominator c q p m → (a : Site) (y : Triple) → IsMember a c.sites → DiffersByCells c.n y a.position → IsWhole e (multiple (pos m) (place_of c q p y))
+  whole_place : (m : ℕ) → IsCommonDenominator c q p m → (a : Atom) (y : Triple) → IsMember a c.atoms → DiffersByCells c.n y a.position → IsWhole e (multiple (pos m) (place_of c q p y))
   whole_place m common a y of_cell apart =
       let v = place_of c q p y in
       let fold = folded e v e_above in
@@ -70,7 +70,7 @@ module _ (c : Structure) (q : Matrix) (p : Point) (above : pos 0 <ℤ determinan
   itself : (n : ℤ) (x : Triple) → x ≡ sum_of x (multiple n (record { x = pos 0; y = pos 0; z = pos 0 }))
   itself n x = by_triples (n ∷ coordinates x) (vector_of_variables 1) (formulas.sum_of quoted (vector_of_variables 1) (formulas.multiple quoted (var 0) (record { x = con (pos 0); y = con (pos 0); z = con (pos 0) }))) refl
 
-  module _ (g : ℤ) (h : IsPlaceDivisor c q p c.sites g) (n : ℕ) (n_is : e ≡ g *ℤ pos n) where
+  module _ (g : ℤ) (h : IsPlaceDivisor c q p c.atoms g) (n : ℕ) (n_is : e ≡ g *ℤ pos n) where
     n_above : pos 0 <ℤ pos n
     n_above = pos_of_mul g (pos n) h.positive (subst (λ (z : ℤ). pos 0 <ℤ z) n_is e_above)
 
@@ -113,7 +113,7 @@ module _ (c : Structure) (q : Matrix) (p : Point) (above : pos 0 <ℤ determinan
       where
         least : (m : ℕ) → pos 0 <ℤ pos m → IsCommonDenominator c q p m → n ≤ m
         least m m_above k =
-            let places = λ (a : Site) (i : IsMember a c.sites). whole_place m k a a.position i (record { cells = record { x = pos 0; y = pos 0; z = pos 0 }; is = itself (pos c.n) a.position }) in
+            let places = λ (a : Atom) (i : IsMember a c.atoms). whole_place m k a a.position i (record { cells = record { x = pos 0; y = pos 0; z = pos 0 }; is = itself (pos c.n) a.position }) in
             let steps = λ (z : Triple).
             (let y = sum_of first.position (multiple (pos c.n) z) in
             whole_is e (multiple (pos m) (cells_of c q p z)) (difference (multiple (pos m) (place_of c q p y)) (multiple (pos m) (place_of c q p first.position)))

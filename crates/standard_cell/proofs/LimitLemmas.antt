@@ -9,7 +9,7 @@ use Rattle.lists.proofs.Walks.{take_at}
 use Rattle.lists.proofs.Members.{each_pushed}
 use Rattle.crystal_spec.specs.declared.MomentKind.{MomentKind}
 use Rattle.crystal_spec.specs.Moments.{divisor}
-use Rattle.crystal_spec.specs.Crystals.{Site}
+use Rattle.crystal_spec.specs.Crystals.{Atom}
 use Rattle.crystal_spec.proofs.Identities.{by_integers}
 use Rattle.crystal.specs.declared.metric.Metric.{Metric}
 use Rattle.crystal.specs.Views.{metric_of}
@@ -34,8 +34,8 @@ pub metric_sizes : {b : ℕ} {g : Metric} → AtMost b g.aa → AtMost b g.bb �
 metric_sizes aa bb cc bc ac ab = record { a11 = aa; a12 = ab; a13 = ac; a21 = ab; a22 = bb; a23 = bc; a31 = ac; a32 = bc; a33 = cc }
 
 -- what holds of each so far and of one more
-pub each_more : (P : Site → Type 0) (xs : List Site) (i : ℕ) (x : Site) → slice_get xs i ≡ Some x → ((a : Site) → IsMember a (take i xs) → P a) → P x → (a : Site) → IsMember a (take (i + 1) xs) → P a
-each_more P xs i x e h p a m = each_pushed P (take i xs) x h p a (subst (λ (l : List Site). IsMember a l) (sym (take_at xs i x e)) m)
+pub each_more : (P : Atom → Type 0) (xs : List Atom) (i : ℕ) (x : Atom) → slice_get xs i ≡ Some x → ((a : Atom) → IsMember a (take i xs) → P a) → P x → (a : Atom) → IsMember a (take (i + 1) xs) → P a
+each_more P xs i x e h p a m = each_pushed P (take i xs) x h p a (subst (λ (l : List Atom). IsMember a l) (sym (take_at xs i x e)) m)
 
 -- the divisor of moments
 pub divisor_vector : (kind : MomentKind) (d : ℕ) → kind.vector ≡ true → divisor kind d ≡ d

@@ -8,7 +8,7 @@ use Rattle.ring.specs.Ring.{var, con, quoted, ◌:*◌}
 use Rattle.matrix3.specs.Matrices.{entries, coordinates, matrix_of_variables, vector_of_variables}
 use Rattle.crystal_spec.specs.Matrices.{Triple, Matrix, product, image, determinant, adjugate, multiple, sum_of, difference}
 use Rattle.crystal_spec.specs.Moments.{turn_matrix}
-use Rattle.crystal_spec.specs.Crystals.{Site, Structure, Occupied, Keeps, KeepsMetric, IsPositive, position_after, moment_after}
+use Rattle.crystal_spec.specs.Crystals.{Atom, Structure, Occupied, Keeps, KeepsMetric, IsPositive, position_after, moment_after}
 use Rattle.crystal_spec.specs.Operations.{Operation, IsWithinCell, sign_factor}
 use Rattle.crystal_spec.proofs.Identities.{by_triples, by_matrices}
 use Rattle.crystal_spec.proofs.Isometries.{determinant-isometry, sign_squared}
@@ -141,7 +141,7 @@ module _ (c s : Structure) (q : Matrix) (p : Point) (st : IsStandard c q p s) (a
     follows : (x x1 : Triple) → multiple (pos 12) x1 ≡ sum_of (multiple (pos 12) (image w x)) (multiple (pos s.n) b.translation) → x1 ≡ position_after w part x
     follows x x1 e = multiple_cancel (pos 12) x1 (position_after w part x) twelve_above (e ∙ ap (sum_of (multiple (pos 12) (image w x))) (sym is_part.is) ∙ sym (multiple-sum_of (pos 12) (image w x) part))
 
-    came : (a : Site) → IsMember a s.sites → ComesFrom s w part sign a
+    came : (a : Atom) → IsMember a s.atoms → ComesFrom s w part sign a
     came a m =
         let u = under c s q p st above some is_p a.species a.position a.moment (occupied_itself s a m) in
         let f = source c.kind v t sign (determinant-isometry c.metric v cell.positive keeps.metric) (sign_squared found.sign) u.position u.moment in

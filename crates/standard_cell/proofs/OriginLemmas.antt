@@ -15,7 +15,7 @@ use Rattle.matrix3.specs.Matrices.{entries, coordinates, matrix_of_variables, ve
 use Rattle.exact_num.specs.Meanings.{fraction_of}
 use Rattle.exact_num.specs.declared.frac.Frac.{Frac}
 use Rattle.crystal_spec.specs.Matrices.{Triple, Matrix, image, determinant, multiple, sum_of, difference}
-use Rattle.crystal_spec.specs.Crystals.{Site, Structure}
+use Rattle.crystal_spec.specs.Crystals.{Atom, Structure}
 use Rattle.crystal_spec.proofs.Identities.{by_integers, by_triples}
 use Rattle.crystal_spec.proofs.Entrywise.{triple_same}
 use Rattle.basis_spec.proofs.Cancelling.{mul_cancel, multiple_cancel}
@@ -25,7 +25,7 @@ use Rattle.match_spec.specs.Fractions.{point_of}
 use Rattle.standard_cell.specs.declared.origin.Origin.{Origin}
 use Rattle.standard_cell.specs.declared.frame.Frame.{Frame}
 use Rattle.standard_cell.specs.Frames.{origin_of}
-use Rattle.standard_cell.specs.Places.{IsPlaceOf, IsCommonDenominator, IsLeastDenominator}
+use Rattle.standard_cell.specs.BasisPlaces.{IsPlaceOf, IsCommonDenominator, IsLeastDenominator}
 use Rattle.standard_cell.specs.StandardCells.{IsAtomOf, IsBlock, AreBlocks, IsStandard, IsWithinLimits}
 use Rattle.standard_cell.specs.Origins.{DenominatorsDivide, IsOrigin}
 use Rattle.standard_cell.proofs.Links.{IsLink}
@@ -50,7 +50,7 @@ link_origin q u v d e n m x y above same l =
     right : multiple e (multiple (m *ℤ d) y) ≡ multiple d (multiple (m *ℤ e) y)
     right = by_triples (d ∷ e ∷ m ∷ coordinates y) (formulas.multiple quoted (var 1) (formulas.multiple quoted (var 2 :* var 0) (vector_of_variables 3))) (formulas.multiple quoted (var 0) (formulas.multiple quoted (var 2 :* var 1) (vector_of_variables 3))) refl
 
-place_at : (c : Structure) (q : Matrix) (p r : Point) → pos 0 <ℤ p.denominator → multiple r.denominator p.numerators ≡ multiple p.denominator r.numerators → (a : Site) (x : Point) → IsPlaceOf c q p a x → IsPlaceOf c q r a x
+place_at : (c : Structure) (q : Matrix) (p r : Point) → pos 0 <ℤ p.denominator → multiple r.denominator p.numerators ≡ multiple p.denominator r.numerators → (a : Atom) (x : Point) → IsPlaceOf c q p a x → IsPlaceOf c q r a x
 place_at c q p r above same a x h = record {
   is_point = h.is_point;
   in_cell = h.in_cell;
@@ -69,22 +69,22 @@ module _ (c : Structure) (q : Matrix) (p r : Point) (p_above : pos 0 <ℤ p.deno
   least_at : (n : ℕ) → IsLeastDenominator c q p n → IsLeastDenominator c q r n
   least_at n h = record { positive = h.positive; common = common_at n h.common; least = λ m m_above k. h.least m m_above (common_back m k) }
 
-  atom_at : (n : ℕ) (a b : Site) → IsAtomOf c q p n a b → IsAtomOf c q r n a b
+  atom_at : (n : ℕ) (a b : Atom) → IsAtomOf c q p n a b → IsAtomOf c q r n a b
   atom_at n a b h = record { species = h.species; place = place_at c q p r p_above same a (point b.position (pos n)) h.place; moment = h.moment }
 
-  atom_back : (n : ℕ) (a b : Site) → IsAtomOf c q r n a b → IsAtomOf c q p n a b
+  atom_back : (n : ℕ) (a b : Atom) → IsAtomOf c q r n a b → IsAtomOf c q p n a b
   atom_back n a b h = record { species = h.species; place = place_at c q r p r_above (sym same) a (point b.position (pos n)) h.place; moment = h.moment }
 
-  block_at : (n : ℕ) (a : Site) (sites : List Site) → IsBlock c q p n a sites → IsBlock c q r n a sites
-  block_at n a sites h = record { increasing = h.increasing; exact = λ b. ((λ m. atom_at n a b ((h.exact b).0 m)), (λ k. (h.exact b).1 (atom_back n a b k))) }
+  block_at : (n : ℕ) (a : Atom) (copies : List Atom) → IsBlock c q p n a copies → IsBlock c q r n a copies
+  block_at n a copies h = record { increasing = h.increasing; exact = λ b. ((λ m. atom_at n a b ((h.exact b).0 m)), (λ k. (h.exact b).1 (atom_back n a b k))) }
 
-  blocks_at : (n : ℕ) (atoms sites : List Site) → AreBlocks c q p n atoms sites → AreBlocks c q r n atoms sites
-  blocks_at n [] sites h = h
-  blocks_at n (a ∷ atoms) sites (block, (rest, (is, (one, more)))) = (block, (rest, (is, (block_at n a block one, blocks_at n atoms rest more))))
+  blocks_at : (n : ℕ) (atoms copies : List Atom) → AreBlocks c q p n atoms copies → AreBlocks c q r n atoms copies
+  blocks_at n [] copies h = h
+  blocks_at n (a ∷ atoms) copies (block, (rest, (is, (one, more)))) = (block, (rest, (is, (block_at n a block one, blocks_at n atoms rest more))))
 
   -- the standard cell is the same
   pub standard_at : (s : Structure) → IsStandard c q p s → IsStandard c q r s
-  standard_at s h = record { names = h.names; scale = h.scale; metric = h.metric; n = least_at s.n h.n; k = h.k; kind = h.kind; sites = blocks_at s.n c.sites s.sites h.sites }
+  standard_at s h = record { names = h.names; scale = h.scale; metric = h.metric; n = least_at s.n h.n; k = h.k; kind = h.kind; atoms = blocks_at s.n c.atoms s.atoms h.atoms }
 
 -- ---- three fractions over one denominator
 
@@ -158,7 +158,7 @@ pub itself : (n : ℤ) (x : Triple) → x ≡ sum_of x (multiple n origin)
 itself n x = by_triples (n ∷ coordinates x) (vector_of_variables 1) (formulas.sum_of quoted (vector_of_variables 1) (formulas.multiple quoted (var 0) (record { x = con (pos 0); y = con (pos 0); z = con (pos 0) }))) refl
 
 -- each denominator of the origin shift divides n times a common denominator of the places
-denominators_divide : (c : Structure) (q : Matrix) (f : Vec3 Frac) (m : ℕ) → pos 0 <ℤ pos m → IsCommonDenominator c q (point_of (vector_map fraction_of f)) m → pos 0 <ℤ determinant q → pos 0 <ℤ pos c.n → (a : Site) → IsMember a c.sites → DenominatorsDivide f (c.n * m)
+denominators_divide : (c : Structure) (q : Matrix) (f : Vec3 Frac) (m : ℕ) → pos 0 <ℤ pos m → IsCommonDenominator c q (point_of (vector_map fraction_of f)) m → pos 0 <ℤ determinant q → pos 0 <ℤ pos c.n → (a : Atom) → IsMember a c.atoms → DenominatorsDivide f (c.n * m)
 denominators_divide c q f m positive common above some a of_cell =
     let p = point_of (vector_map fraction_of f) in
     let r = placed c q p m positive common above some (record { positive = denominator_above f }) a a.position of_cell (record { cells = origin; is = itself (pos c.n) a.position }) in
@@ -174,7 +174,7 @@ denominators_divide c q f m positive common above some a of_cell =
     }
 
 -- so a standard cell is too wide where all such numbers pass 10^12
-pub too_fine : (c s : Structure) (q : Matrix) (f : Vec3 Frac) → IsStandard c q (point_of (vector_map fraction_of f)) s → IsWithinLimits s → pos 0 <ℤ determinant q → pos 0 <ℤ pos c.n → c.n ≤ 10 ^ 6 → (a : Site) → IsMember a c.sites → ((k : ℕ) → 0 < k → DenominatorsDivide f k → 10 ^ 12 < k) → ⊥
+pub too_fine : (c s : Structure) (q : Matrix) (f : Vec3 Frac) → IsStandard c q (point_of (vector_map fraction_of f)) s → IsWithinLimits s → pos 0 <ℤ determinant q → pos 0 <ℤ pos c.n → c.n ≤ 10 ^ 6 → (a : Atom) → IsMember a c.atoms → ((k : ℕ) → 0 < k → DenominatorsDivide f k → 10 ^ 12 < k) → ⊥
 too_fine c s q f st fits above some few a of_cell large =
     past c.n s.n few fits.n (large (c.n * s.n) (product c.n s.n some st.n.positive) (denominators_divide c q f s.n st.n.positive st.n.common above some a of_cell))
   where

@@ -6,7 +6,7 @@ use Rattle.matrix3.specs.Matrices as formulas
 use Rattle.ring.specs.Ring.{var, con, quoted}
 use Rattle.matrix3.specs.Matrices.{entries, coordinates, matrix_of_variables, vector_of_variables}
 use Rattle.crystal_spec.specs.Matrices.{Triple, Matrix, image, adjugate, multiple, sum_of}
-use Rattle.crystal_spec.specs.Crystals.{Site, Structure}
+use Rattle.crystal_spec.specs.Crystals.{Atom, Structure}
 use Rattle.crystal_spec.proofs.Identities.{by_triples}
 use Rattle.positions.specs.Positions.{triple}
 use Rattle.basis_spec.proofs.MatrixLaws.{multiple_swap}
@@ -78,18 +78,18 @@ translations_divisor c q p e s a r g h above e_is s_is a_is x y z = record {
     down = multiple_multiple g h r y.of_left z.of_left
 
 -- and with one more atom
-pub more_places : (c : Structure) (q : Matrix) (p : Point) (sites : List Site) (a : Site) (g h : ℤ) → IsPlaceDivisor c q p sites g → IsCommonWith g (place_of c q p a.position) h → IsPlaceDivisor c q p (sites ++ a ∷ []) h
-more_places c q p sites a g h d w = record {
+pub more_places : (c : Structure) (q : Matrix) (p : Point) (copies : List Atom) (a : Atom) (g h : ℤ) → IsPlaceDivisor c q p copies g → IsCommonWith g (place_of c q p a.position) h → IsPlaceDivisor c q p (copies ++ a ∷ []) h
+more_places c q p copies a g h d w = record {
   positive = w.positive;
   whole = multiple_multiple g h (full q p (pos c.n)) d.whole w.of_left;
   steps = λ z. whole_divided g h (cells_of c q p z) (d.steps z) w.of_left;
   places = places;
-  greatest = λ k f above i each steps. w.greatest k f above (d.greatest k f above i (λ b m. each b (member_front sites a b m)) steps) (each a (member_last sites a));
+  greatest = λ k f above i each steps. w.greatest k f above (d.greatest k f above i (λ b m. each b (member_front copies a b m)) steps) (each a (member_last copies a));
 }
   where
-    places : (b : Site) → IsMember b (sites ++ a ∷ []) → IsWhole h (place_of c q p b.position)
-    places b m = by (pushed_member sites a b m)
+    places : (b : Atom) → IsMember b (copies ++ a ∷ []) → IsWhole h (place_of c q p b.position)
+    places b m = by (pushed_member copies a b m)
       where
-        by : (b ≡ a) ⊎ IsMember b sites → IsWhole h (place_of c q p b.position)
+        by : (b ≡ a) ⊎ IsMember b copies → IsWhole h (place_of c q p b.position)
         by (inr k) = whole_divided g h (place_of c q p b.position) (d.places b k) w.of_left
-        by (inl e) = subst (λ (x : Site). IsWhole h (place_of c q p x.position)) (sym e) w.of_right
+        by (inl e) = subst (λ (x : Atom). IsWhole h (place_of c q p x.position)) (sym e) w.of_right

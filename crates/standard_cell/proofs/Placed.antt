@@ -6,11 +6,11 @@ use Rattle.ring.specs.Ring.{var, con, quoted}
 use Rattle.ring.proofs.IntOrder.{mul_pos}
 use Rattle.matrix3.specs.Matrices.{entries, coordinates, matrix_of_variables, vector_of_variables}
 use Rattle.crystal_spec.specs.Matrices.{Triple, Matrix, image, determinant, multiple, sum_of}
-use Rattle.crystal_spec.specs.Crystals.{Site, Structure}
+use Rattle.crystal_spec.specs.Crystals.{Atom, Structure}
 use Rattle.crystal_spec.proofs.Identities.{by_triples}
 use Rattle.crystal_spec.specs.Cells.{DiffersByCells}
 use Rattle.match_spec.specs.Points.{Point, point, IsPoint}
-use Rattle.standard_cell.specs.Places.{IsPlaceOf, IsCommonDenominator}
+use Rattle.standard_cell.specs.BasisPlaces.{IsPlaceOf, IsCommonDenominator}
 use Rattle.standard_cell.proofs.Links.{IsLink, source, link_moved, link_source, link_scale, folded, scaled_in_cell}
 
 -- whole cells of the old basis, and the image of cells of the new one
@@ -34,13 +34,13 @@ there_again q n y f =
 
 module _ (c : Structure) (q : Matrix) (p : Point) (m : ℕ) (positive : pos 0 <ℤ pos m) (common : IsCommonDenominator c q p m) (above : pos 0 <ℤ determinant q) (some : pos 0 <ℤ pos c.n) (is_p : IsPoint p) where
   -- the place X / m, and the cells of the new basis between it and that of y
-  pub record Placed (a : Site) (y : Triple) : Type 0 where
+  pub record Placed (a : Atom) (y : Triple) : Type 0 where
     pub rest : Triple
     pub cells : Triple
     pub place : IsPlaceOf c q p a (point rest (pos m))
     pub link : IsLink q p.numerators p.denominator (pos c.n) (pos m) (sum_of rest (multiple (pos m) cells)) y
 
-  pub placed : (a : Site) (y : Triple) → IsMember a c.sites → DiffersByCells c.n y a.position → Placed a y
+  pub placed : (a : Atom) (y : Triple) → IsMember a c.atoms → DiffersByCells c.n y a.position → Placed a y
   placed a y of_cell apart =
       let e = determinant q *ℤ (pos c.n *ℤ p.denominator) in
       let e_above : pos 0 <ℤ e = mul_pos (determinant q) (pos c.n *ℤ p.denominator) above (mul_pos (pos c.n) p.denominator some is_p.positive) in

@@ -7,19 +7,19 @@ use Rattle.lists.specs.Increasing.{IsMember}
 use Rattle.crystal_spec.specs.declared.MomentKind.{MomentKind}
 use Rattle.crystal_spec.specs.Matrices.{Matrix, image, determinant, adjugate}
 use Rattle.crystal_spec.specs.Moments.{IsOfKind, turn_matrix}
-use Rattle.crystal_spec.specs.Crystals.{Site, Structure, IsPositive}
+use Rattle.crystal_spec.specs.Crystals.{Atom, Structure, IsPositive}
 use Rattle.crystal_spec.specs.Cells.{IsCell}
 use Rattle.crystal_spec.proofs.Moments.{turn-of_kind}
 use Rattle.crystal.specs.declared.limits.TheConstants.{MOST_ATOMS}
 use Rattle.crystal.specs.Views.{metric_of}
 use Rattle.matrix3.specs.Bounds.{EntriesAtMost, CoordinatesAtMost}
-use Rattle.crystal.specs.Cells.{IsSiteOf, AreSitesOf, IsCellWithinLimits}
-use Rattle.crystal.proofs.CellLemmas.{site_member, is_cell}
+use Rattle.crystal.specs.Cells.{IsCellAtom, AreCellAtoms, IsCellWithinLimits}
+use Rattle.crystal.proofs.CellLemmas.{atom_member, is_cell}
 use Rattle.positions.specs.Positions.{origin}
 use Rattle.basis_spec.proofs.Positive.{pos_of_mul, positive_metric_in}
 use Rattle.match_spec.specs.Points.{Point, IsPoint}
 use Rattle.standard_cell.specs.declared.limits.Units.{Units}
-use Rattle.standard_cell.specs.Places.{IsLeastDenominator}
+use Rattle.standard_cell.specs.BasisPlaces.{IsLeastDenominator}
 use Rattle.standard_cell.specs.StandardCells.{IsBlock, AreBlocks, IsStandard, IsWithinLimits}
 use Rattle.standard_cell.specs.Rooms.{AreUnits, HasRoom}
 use Rattle.standard_cell.proofs.Blocks.{block_of, of_block}
@@ -35,20 +35,20 @@ natural (negsuc n) h = absurd h.lt
 
 -- ---- one more block
 
-pub blocks_more : (c : Structure) (q : Matrix) (p : Point) (n : ℕ) (atoms : List Site) (a : Site) (sites block : List Site) → AreBlocks c q p n atoms sites → IsBlock c q p n a block → AreBlocks c q p n (atoms ++ a ∷ []) (sites ++ block)
-blocks_more c q p n [] a sites block is one = (block, ([], (ap (λ (l : List Site). l ++ block) is ∙ sym (append-nil block), (one, refl))))
-blocks_more c q p n (b ∷ atoms) a sites block (first, (rest, (is, (here, more)))) one =
-    (first, (rest ++ block, (ap (λ (l : List Site). l ++ block) is ∙ assoc first rest block, (here, blocks_more c q p n atoms a rest block more one))))
+pub blocks_more : (c : Structure) (q : Matrix) (p : Point) (n : ℕ) (atoms : List Atom) (a : Atom) (copies block : List Atom) → AreBlocks c q p n atoms copies → IsBlock c q p n a block → AreBlocks c q p n (atoms ++ a ∷ []) (copies ++ block)
+blocks_more c q p n [] a copies block is one = (block, ([], (ap (λ (l : List Atom). l ++ block) is ∙ sym (append-nil block), (one, refl))))
+blocks_more c q p n (b ∷ atoms) a copies block (first, (rest, (is, (here, more)))) one =
+    (first, (rest ++ block, (ap (λ (l : List Atom). l ++ block) is ∙ assoc first rest block, (here, blocks_more c q p n atoms a rest block more one))))
   where
-    assoc : (xs ys zs : List Site) → (xs ++ ys) ++ zs ≡ xs ++ (ys ++ zs)
+    assoc : (xs ys zs : List Atom) → (xs ++ ys) ++ zs ≡ xs ++ (ys ++ zs)
     assoc [] ys zs = refl
-    assoc (x ∷ xs) ys zs = ap (λ (l : List Site). x ∷ l) (assoc xs ys zs)
+    assoc (x ∷ xs) ys zs = ap (λ (l : List Atom). x ∷ l) (assoc xs ys zs)
 
--- ---- sites that a cell can hold
+-- ---- copies that a cell can hold
 
-same_sites : (names n : ℕ) (kind : MomentKind) (sites : List Site) → ((b : Site) → IsMember b sites → IsSiteOf names n kind b) → AreSitesOf names n kind sites
-same_sites names n kind [] h = tt
-same_sites names n kind (x ∷ sites) h = (h x (inl refl), same_sites names n kind sites (λ b m. h b (inr m)))
+same_atoms : (names n : ℕ) (kind : MomentKind) (copies : List Atom) → ((b : Atom) → IsMember b copies → IsCellAtom names n kind b) → AreCellAtoms names n kind copies
+same_atoms names n kind [] h = tt
+same_atoms names n kind (x ∷ copies) h = (h x (inl refl), same_atoms names n kind copies (λ b m. h b (inr m)))
 
 module _ (c : Structure) (q : Matrix) (p : Point) (u : Units) (form : IsCellWithinLimits c) (above : pos 0 <ℤ determinant q) (is_p : IsPoint p) (units : AreUnits c q p u) where
   cell : IsCell c
@@ -70,28 +70,28 @@ module _ (c : Structure) (q : Matrix) (p : Point) (u : Units) (form : IsCellWith
   least = least_denominator c q p above some is_p cell.first cell.of_cell u.divisor units.divisor_is (unsigned_abs u.n) (units.n_is ∙ ap (λ (z : ℤ). u.divisor *ℤ z) (sym m_is))
 
   -- the standard cell of these blocks
-  abbrev pub cell_with : List Site → Structure
-  cell_with sites = record { names = c.names; scale = c.scale; metric = metric_of u.metric; n = unsigned_abs u.n; k = u.k; kind = c.kind; sites = sites }
+  abbrev pub cell_with : List Atom → Structure
+  cell_with copies = record { names = c.names; scale = c.scale; metric = metric_of u.metric; n = unsigned_abs u.n; k = u.k; kind = c.kind; atoms = copies }
 
-  pub standard_with : (sites : List Site) → AreBlocks c q p (unsigned_abs u.n) c.sites sites → IsStandard c q p (cell_with sites)
-  standard_with sites h = record { names = refl; scale = refl; metric = units.metric_is; n = least; k = units.k_is; kind = refl; sites = h }
+  pub standard_with : (copies : List Atom) → AreBlocks c q p (unsigned_abs u.n) c.atoms copies → IsStandard c q p (cell_with copies)
+  standard_with copies h = record { names = refl; scale = refl; metric = units.metric_is; n = least; k = units.k_is; kind = refl; atoms = h }
 
   -- so many atoms
   as_natural : (h : ℤ) (k l : ℕ) → pos 0 <ℤ h → pos k ≡ h *ℤ pos l → k ≡ unsigned_abs h * l
   as_natural (pos n) k l above e = omega (arith, ints, e)
   as_natural (negsuc n) k l above e = absurd above.lt
 
-  pub count_is : (s : Structure) → IsStandard c q p s → length s.sites ≡ unsigned_abs (determinant q) * length c.sites
-  count_is s st = as_natural (determinant q) (length s.sites) (length c.sites) above (standard_count c s q p st above some is_p)
+  pub count_is : (s : Structure) → IsStandard c q p s → length s.atoms ≡ unsigned_abs (determinant q) * length c.atoms
+  count_is s st = as_natural (determinant q) (length s.atoms) (length c.atoms) above (standard_count c s q p st above some is_p)
 
   -- it is within the limits where there is room
-  pub limits_of_room : HasRoom c q u → (sites : List Site) → AreBlocks c q p (unsigned_abs u.n) c.sites sites → IsWithinLimits (cell_with sites)
-  limits_of_room room sites h = record {
-    atoms = subst (λ (k : ℕ). k ≤ MOST_ATOMS) (sym (count_is (cell_with sites) (standard_with sites h))) room.atoms;
+  pub limits_of_room : HasRoom c q u → (copies : List Atom) → AreBlocks c q p (unsigned_abs u.n) c.atoms copies → IsWithinLimits (cell_with copies)
+  limits_of_room room copies h = record {
+    atoms = subst (λ (k : ℕ). k ≤ MOST_ATOMS) (sym (count_is (cell_with copies) (standard_with copies h))) room.atoms;
     n = few (unsigned_abs u.n) (subst (λ (z : ℤ). z ≤ℤ pos (10 ^ 6)) (sym m_is) room.n);
     k = room.k;
     metric = room.metric;
-    moments = λ b k. (let r = block_of c q p (unsigned_abs u.n) c.sites sites h b k in subst (CoordinatesAtMost (2 * 10 ^ 27)) (sym r.atom.moment) (room.moments r.site r.of_cell));
+    moments = λ b k. (let r = block_of c q p (unsigned_abs u.n) c.atoms copies h b k in subst (CoordinatesAtMost (2 * 10 ^ 27)) (sym r.atom.moment) (room.moments r.source r.of_cell));
   }
     where
       few : (k : ℕ) → pos k ≤ℤ pos (10 ^ 6) → k ≤ 10 ^ 6
@@ -108,8 +108,8 @@ module _ (c : Structure) (q : Matrix) (p : Point) (u : Units) (form : IsCellWith
         metric = subst (EntriesAtMost (10 ^ 16)) (st.metric ∙ sym units.metric_is) fits.metric;
         moments = λ a of_cell.
             (let r = placed c q p s.n st.n.positive st.n.common above some is_p a a.position of_cell (record { cells = origin; is = itself (pos c.n) a.position }) in
-            let b : Site = record { species = a.species; position = r.rest; moment = image (turn_matrix c.kind (adjugate q)) a.moment } in
-            fits.moments b (of_block c q p s.n c.sites s.sites st.sites a b of_cell (record { species = refl; place = r.place; moment = refl })));
+            let b : Atom = record { species = a.species; position = r.rest; moment = image (turn_matrix c.kind (adjugate q)) a.moment } in
+            fits.moments b (of_block c q p s.n c.atoms s.atoms st.atoms a b of_cell (record { species = refl; place = r.place; moment = refl })));
       }
     where
       as_integer : (k : ℕ) → k ≤ 10 ^ 6 → pos k ≤ℤ pos (10 ^ 6)
@@ -120,35 +120,35 @@ module _ (c : Structure) (q : Matrix) (p : Point) (u : Units) (form : IsCellWith
   metric_positive = subst IsPositive (sym units.metric_is) (positive_metric_in q c.metric cell.symmetric cell.positive above)
 
   -- its atoms are such as a cell can hold
-  pub sites_fit : HasRoom c q u → (sites : List Site) → AreBlocks c q p (unsigned_abs u.n) c.sites sites → AreSitesOf (length c.names) (unsigned_abs u.n) c.kind sites
-  sites_fit room sites h = same_sites (length c.names) (unsigned_abs u.n) c.kind sites each
+  pub atoms_fit : HasRoom c q u → (copies : List Atom) → AreBlocks c q p (unsigned_abs u.n) c.atoms copies → AreCellAtoms (length c.names) (unsigned_abs u.n) c.kind copies
+  atoms_fit room copies h = same_atoms (length c.names) (unsigned_abs u.n) c.kind copies each
     where
-      each : (b : Site) → IsMember b sites → IsSiteOf (length c.names) (unsigned_abs u.n) c.kind b
+      each : (b : Atom) → IsMember b copies → IsCellAtom (length c.names) (unsigned_abs u.n) c.kind b
       each b k =
-          let r = block_of c q p (unsigned_abs u.n) c.sites sites h b k in
-          let a = site_member (length c.names) c.n c.kind c.sites r.site form.sites r.of_cell in
+          let r = block_of c q p (unsigned_abs u.n) c.atoms copies h b k in
+          let a = atom_member (length c.names) c.n c.kind c.atoms r.source form.atoms r.of_cell in
           let i = r.atom.place.in_cell in
           record {
             named = subst (λ (s : ℕ). s < length c.names) (sym r.atom.species) a.named;
             within = record { x = (i.x_low, i.x_high); y = (i.y_low, i.y_high); z = (i.z_low, i.z_high) };
-            moment = subst (CoordinatesAtMost (2 * 10 ^ 27)) (sym r.atom.moment) (room.moments r.site r.of_cell);
-            of_kind = subst (IsOfKind c.kind) (sym r.atom.moment) (turn-of_kind c.kind (adjugate q) r.site.moment a.of_kind);
+            moment = subst (CoordinatesAtMost (2 * 10 ^ 27)) (sym r.atom.moment) (room.moments r.source r.of_cell);
+            of_kind = subst (IsOfKind c.kind) (sym r.atom.moment) (turn-of_kind c.kind (adjugate q) r.source.moment a.of_kind);
           }
 
   -- the first of them has the species of the first atom, and there is one
   no_none : (h : ℤ) → pos 0 <ℤ h → pos 0 ≡ h → ⊥
   no_none h above e = omega (arith, ints)
 
-  pub first_species : (atoms sites : List Site) → ((a : Site) → IsMember a atoms → IsMember a c.sites) → AreBlocks c q p (unsigned_abs u.n) atoms sites → 1 ≤ length atoms → ((a : Site) → slice_get atoms 0 ≡ Some a → a.species ≡ 0) → (b : Site) → slice_get sites 0 ≡ Some b → b.species ≡ 0
-  first_species [] sites part h one none b e = absurd (omega arith)
-  first_species (a ∷ atoms) sites part (block, (rest, (is, (here, more)))) one none b e = by block here (ap (λ (l : List Site). slice_get l 0) (sym is) ∙ e)
+  pub first_species : (atoms copies : List Atom) → ((a : Atom) → IsMember a atoms → IsMember a c.atoms) → AreBlocks c q p (unsigned_abs u.n) atoms copies → 1 ≤ length atoms → ((a : Atom) → slice_get atoms 0 ≡ Some a → a.species ≡ 0) → (b : Atom) → slice_get copies 0 ≡ Some b → b.species ≡ 0
+  first_species [] copies part h one none b e = absurd (omega arith)
+  first_species (a ∷ atoms) copies part (block, (rest, (is, (here, more)))) one none b e = by block here (ap (λ (l : List Atom). slice_get l 0) (sym is) ∙ e)
     where
-      by : (block : List Site) → IsBlock c q p (unsigned_abs u.n) a block → slice_get (block ++ rest) 0 ≡ Some b → b.species ≡ 0
+      by : (block : List Atom) → IsBlock c q p (unsigned_abs u.n) a block → slice_get (block ++ rest) 0 ≡ Some b → b.species ≡ 0
       by [] here e = absurd (no_none (determinant q) above (block_count c q p (unsigned_abs u.n) least.positive least.common above some is_p a (part a (inl refl)) [] here))
-      by (x ∷ block) here e = let same : x ≡ b = cc e in subst (λ (s : Site). s.species ≡ 0) same (((here.exact x).0 (inl refl)).species ∙ none a refl)
+      by (x ∷ block) here e = let same : x ≡ b = cc e in subst (λ (s : Atom). s.species ≡ 0) same (((here.exact x).0 (inl refl)).species ∙ none a refl)
 
-  pub some_sites : (s : Structure) → IsStandard c q p s → 1 ≤ length s.sites
-  some_sites s st = positive (unsigned_abs (determinant q)) (length c.sites) (length s.sites) (size (determinant q) above) form.some (count_is s st)
+  pub some_atoms : (s : Structure) → IsStandard c q p s → 1 ≤ length s.atoms
+  some_atoms s st = positive (unsigned_abs (determinant q)) (length c.atoms) (length s.atoms) (size (determinant q) above) form.some (count_is s st)
     where
       size : (z : ℤ) → pos 0 <ℤ z → 1 ≤ unsigned_abs z
       size z h = omega (arith, ints)

@@ -7,7 +7,7 @@ use Rattle.matrix3.specs.Matrices.{EachEntry, EachCoordinate}
 use Rattle.crystal_spec.specs.declared.MomentKind.{MomentKind}
 use Rattle.crystal_spec.specs.Matrices.{Triple, Matrix, image, adjugate}
 use Rattle.crystal_spec.specs.Moments.{turn_matrix}
-use Rattle.crystal_spec.specs.Crystals.{Site}
+use Rattle.crystal_spec.specs.Crystals.{Atom}
 use Rattle.crystal_spec.proofs.Entrywise.{triple_same}
 use Rattle.matrix3.specs.Bounds.{EntriesAtMost, CoordinatesAtMost}
 use Rattle.crystal.proofs.Ranges.{turn_entries}
@@ -61,11 +61,11 @@ turn_each kind m r some h = each_of (turn_entries kind m r some (entries_of h))
 
 -- ---- the element at a place
 
-pub record ElementAt (xs : List Site) (i : ℕ) : Type 0 where
-  pub site : Site
-  pub is : slice_get xs i ≡ Some site
+pub record ElementAt (xs : List Atom) (i : ℕ) : Type 0 where
+  pub atom : Atom
+  pub is : slice_get xs i ≡ Some atom
 
-pub element_at : (xs : List Site) (i : ℕ) → i < length xs → ElementAt xs i
+pub element_at : (xs : List Atom) (i : ℕ) → i < length xs → ElementAt xs i
 element_at [] i h = absurd (omega arith)
-element_at (x ∷ xs) zero h = record { site = x; is = refl }
-element_at (x ∷ xs) (suc i) h = let r = element_at xs i (omega (arith, h)) in record { site = r.site; is = r.is }
+element_at (x ∷ xs) zero h = record { atom = x; is = refl }
+element_at (x ∷ xs) (suc i) h = let r = element_at xs i (omega (arith, h)) in record { atom = r.atom; is = r.is }

@@ -15,7 +15,7 @@ use Rattle.ring.specs.Size.{AtMost}
 use Rattle.matrix3.specs.Matrices.{EachEntry, EachCoordinate}
 use Rattle.crystal_spec.specs.Matrices.{Triple, image, determinant, adjugate, multiple, sum_of, difference}
 use Rattle.crystal_spec.specs.Moments.{turn_matrix}
-use Rattle.crystal_spec.specs.Crystals.{Site, Structure}
+use Rattle.crystal_spec.specs.Crystals.{Atom, Structure}
 use Rattle.match_spec.specs.Points.{Point, point, IsInCell, IsWhole}
 use Rattle.standard_cell.specs.declared.frame.Frame.{Frame}
 use Rattle.standard_cell.specs.declared.copies.Copies.{Copies}
@@ -66,7 +66,7 @@ pub record IsCopies (f : Frame) (s : Copies) : Type 0 where
   pub few : full_of f ≤ℤ (s.divisor *ℤ pos (10 ^ 6))
 
 -- its position is that of t over the divisor
-pub record IsCopy (f : Frame) (s : Copies) (t : Triple) (b : Site) : Type 0 where
+pub record IsCopy (f : Frame) (s : Copies) (t : Triple) (b : Atom) : Type 0 where
   pub meets : Meets f s.goal (point_at f s.start t)
   pub position : multiple s.divisor b.position ≡ point_at f s.start t
   pub species : b.species ≡ s.species
@@ -79,7 +79,7 @@ pub record IsStart (f : Frame) (y start : Triple) : Type 0 where
   pub in_cell : IsInCell (point start (step_of f))
 
 -- the copies of an atom of c, over a common denominator m
-pub record AreCopiesOf (c : Structure) (f : Frame) (s : Copies) (a : Site) (m : ℕ) : Type 0 where
+pub record AreCopiesOf (c : Structure) (f : Frame) (s : Copies) (a : Atom) (m : ℕ) : Type 0 where
   pub same_n : f.n ≡ c.n
   pub above : pos 0 <ℤ pos m
   pub parts : full_of f ≡ s.divisor *ℤ pos m

@@ -35,7 +35,7 @@ IsUniqueLaw = (c s t : Structure) (q : Matrix) (p : Point) → IsStandard c q p 
 -- the lattice of the columns of Q has the index det(Q), so each atom has so many places
 abbrev pub HasCountLaw : Type 0
 HasCountLaw =
-    (c s : Structure) (q : Matrix) (p : Point) → IsCell c → pos 0 <ℤ determinant q → IsPoint p → IsStandard c q p s → pos (length s.sites) ≡ determinant q *ℤ pos (length c.sites)
+    (c s : Structure) (q : Matrix) (p : Point) → IsCell c → pos 0 <ℤ determinant q → IsPoint p → IsStandard c q p s → pos (length s.atoms) ≡ determinant q *ℤ pos (length c.atoms)
 
 -- c is a primitive cell with all its operations ms, and os are all operations of its standard cell; h is a group with
 -- translation parts in units of 1/12, and the map of Q and p is the first that carries it onto ms

@@ -5,11 +5,11 @@
 --   place_of c q p y              the numerators of the place of the position y
 --   cells_of c q p z              those of the translation between places that are z cells of the old basis apart
 --   IsMultiple k z                z is a multiple of k
---   IsPlaceDivisor c q p sites g  g divides e, all translations between places, and the places of these atoms, and is the greatest
+--   IsPlaceDivisor c q p copies g  g divides e, all translations between places, and the places of these atoms, and is the greatest
 use Rattle.std.specs.Prelude.{◌≡◌, ℤ, pos, ◌*ℤ◌, ◌<ℤ◌, List}
 use Rattle.lists.specs.Increasing.{IsMember}
 use Rattle.crystal_spec.specs.Matrices.{Triple, Matrix, image, determinant, adjugate, multiple, difference}
-use Rattle.crystal_spec.specs.Crystals.{Site, Structure}
+use Rattle.crystal_spec.specs.Crystals.{Atom, Structure}
 use Rattle.match_spec.specs.Points.{Point, IsWhole}
 
 -- adj(Q) (d Y - n u)
@@ -33,9 +33,9 @@ abbrev pub IsMultiple : ℤ → ℤ → Type 0
 IsMultiple k z = (m : ℤ) × (z ≡ k *ℤ m)
 
 -- g divides them all, and where k divides f times each of them, it divides f g
-pub record IsPlaceDivisor (c : Structure) (q : Matrix) (p : Point) (sites : List Site) (g : ℤ) : Type 0 where
+pub record IsPlaceDivisor (c : Structure) (q : Matrix) (p : Point) (copies : List Atom) (g : ℤ) : Type 0 where
   pub positive : pos 0 <ℤ g
   pub whole : IsMultiple g (full q p (pos c.n))
   pub steps : (z : Triple) → IsWhole g (cells_of c q p z)
-  pub places : (a : Site) → IsMember a sites → IsWhole g (place_of c q p a.position)
-  pub greatest : (k f : ℤ) → pos 0 <ℤ k → IsMultiple k (f *ℤ full q p (pos c.n)) → ((a : Site) → IsMember a sites → IsWhole k (multiple f (place_of c q p a.position))) → ((z : Triple) → IsWhole k (multiple f (cells_of c q p z))) → IsMultiple k (f *ℤ g)
+  pub places : (a : Atom) → IsMember a copies → IsWhole g (place_of c q p a.position)
+  pub greatest : (k f : ℤ) → pos 0 <ℤ k → IsMultiple k (f *ℤ full q p (pos c.n)) → ((a : Atom) → IsMember a copies → IsWhole k (multiple f (place_of c q p a.position))) → ((z : Triple) → IsWhole k (multiple f (cells_of c q p z))) → IsMultiple k (f *ℤ g)

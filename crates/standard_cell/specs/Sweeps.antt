@@ -8,21 +8,21 @@
 use Rattle.std.specs.Prelude.{◌≡◌, ℕ, ℤ, pos, ◌≤ℤ◌, ◌<ℤ◌, List, ◌++◌, map}
 use Rattle.lists.specs.Increasing.{IsIncreasing, IsMember}
 use Rattle.crystal_spec.specs.Matrices.{Triple}
-use Rattle.crystal_spec.specs.Crystals.{Site}
-use Rattle.crystal.specs.declared.atom.Atom.{Atom}
-use Rattle.crystal.specs.Views.{site_of}
+use Rattle.crystal_spec.specs.Crystals.{Atom}
+use Rattle.crystal.specs.declared.atom.Atom.{Atom as CodeAtom}
+use Rattle.crystal.specs.Views.{atom_of}
 use Rattle.standard_cell.specs.StandardCells.{compare_places}
 
 -- all and only those
-pub record IsSweep (P : Triple → Site → Type 0) (R : Triple → Type 0) (block : List Site) : Type 0 where
+pub record IsSweep (P : Triple → Atom → Type 0) (R : Triple → Type 0) (block : List Atom) : Type 0 where
   pub increasing : IsIncreasing compare_places block
-  pub into : (b : Site) → IsMember b block → (t : Triple) × (R t × P t b)
-  pub onto : (b : Site) (t : Triple) → R t → P t b → IsMember b block
+  pub into : (b : Atom) → IsMember b block → (t : Triple) × (R t × P t b)
+  pub onto : (b : Atom) (t : Triple) → R t → P t b → IsMember b block
 
 -- behind the atoms that were there
-pub record IsAdded (before after : List Atom) (P : Triple → Site → Type 0) (R : Triple → Type 0) : Type 0 where
-  pub block : List Site
-  pub is : map site_of after ≡ map site_of before ++ block
+pub record IsAdded (before after : List CodeAtom) (P : Triple → Atom → Type 0) (R : Triple → Type 0) : Type 0 where
+  pub block : List Atom
+  pub is : map atom_of after ≡ map atom_of before ++ block
   pub sweep : IsSweep P R block
 
 -- from 0 and below k

@@ -1,8 +1,8 @@
 // The atoms of the standard cell: for each atom of the primitive cell those that it has in the new basis.
 
 ghost use Rattle.std.specs.Prelude.{◌≡◌, ◌*◌, ◌^◌, ◌<◌, ◌≤ℤ◌, pos, length, map, slice_get, Some, unsigned_abs, IfOk};
-ghost use Rattle.crystal_spec.specs.Crystals.{Site};
-ghost use Rattle.crystal.specs.Views.{site_of};
+ghost use Rattle.crystal_spec.specs.Crystals.{Atom as ViewedAtom};
+ghost use Rattle.crystal.specs.Views.{atom_of};
 ghost use Rattle.standard_cell.specs.StandardCells.{AreBlocks};
 ghost use Rattle.standard_cell.specs.Frames.{IsFrame, origin_of, IsCopies, AreCopiesOf};
 ghost use Rattle.standard_cell.specs.Rooms.{AreUnits};
@@ -19,9 +19,9 @@ fn copies_of(frame: &Frame, cell: &Cell, i: usize, units: &Units) -> Copies
     requires n { frame.now.n ≡ cell.now.n }
     requires units { AreUnits cell.now frame.now.turn (origin_of frame.now) units.now }
     requires few { units.now.n ≤ℤ pos (10 ^ 6) }
-    requires i { i < length cell.now.sites }
+    requires i { i < length cell.now.atoms }
     ensures copies { IsCopies frame.now result }
-    ensures of_atom { (a : Site) → slice_get cell.now.sites i ≡ Some a → AreCopiesOf cell.now frame.now result a (unsigned_abs units.now.n) }
+    ensures of_atom { (a : ViewedAtom) → slice_get cell.now.atoms i ≡ Some a → AreCopiesOf cell.now frame.now result a (unsigned_abs units.now.n) }
 {
     let atom = cell.atom(i);
     let goal = goal(frame, atom.place);
@@ -47,7 +47,7 @@ pub(crate) fn standard_atoms(
     requires n { frame.now.n ≡ cell.now.n }
     requires units { AreUnits cell.now frame.now.turn (origin_of frame.now) units.now }
     requires few { units.now.n ≤ℤ pos (10 ^ 6) }
-    ensures { IfOk result (λ made. AreBlocks cell.now frame.now.turn (origin_of frame.now) (unsigned_abs units.now.n) cell.now.sites (map site_of made.items)) }
+    ensures { IfOk result (λ made. AreBlocks cell.now frame.now.turn (origin_of frame.now) (unsigned_abs units.now.n) cell.now.atoms (map atom_of made.items)) }
 {
     let mut made = Vec::new(alloc);
     for i in 0..cell.count() {

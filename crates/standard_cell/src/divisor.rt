@@ -45,7 +45,7 @@ fn translation_divisor(frame: &Frame) -> Int
 pub(crate) fn place_divisor(frame: &Frame, cell: &Cell) -> Int
     requires frame { IsFrame frame.now }
     requires n { frame.now.n ≡ cell.now.n }
-    ensures { IsPlaceDivisor cell.now frame.now.turn (origin_of frame.now) cell.now.sites result }
+    ensures { IsPlaceDivisor cell.now frame.now.turn (origin_of frame.now) cell.now.atoms result }
 {
     let mut divisor = translation_divisor(frame);
     for i in 0..cell.count() {

@@ -6,7 +6,7 @@ ghost use Rattle.lists.specs.Increasing.{IsMember};
 ghost use Rattle.matrix3.specs.Matrices.{EachEntry};
 ghost use Rattle.crystal_spec.specs.Matrices.{image, transposed};
 ghost use Rattle.crystal_spec.specs.Moments.{divisor};
-ghost use Rattle.crystal_spec.specs.Crystals.{Site};
+ghost use Rattle.crystal_spec.specs.Crystals.{Atom};
 ghost use Rattle.crystal.specs.Views.{metric_of};
 ghost use Rattle.matrix3.specs.Bounds.{EntriesAtMost, CoordinatesAtMost};
 ghost use Rattle.basis_spec.specs.Metrics.{metric_in};
@@ -51,7 +51,7 @@ fn moment_parts(cell: &Cell, index: u32) -> u32
     requires { index ≤ 1728 }
     ensures { result ≡ divisor cell.now.kind index * cell.now.k }
 {
-    let _form = cell.count();
+    cell.invariant();
     if cell.kind().vector {
         index * cell.k()
     } else {
@@ -65,7 +65,7 @@ pub(crate) fn units_of(frame: &Frame, cell: &Cell) -> Units
     requires n { frame.now.n ≡ cell.now.n }
     ensures { AreUnits cell.now frame.now.turn (origin_of frame.now) result }
 {
-    let _form = cell.count();
+    cell.invariant();
     let divisor = place_divisor(frame, cell);
     Units {
         n: full(frame).div_exact(&divisor).unwrap(),
@@ -116,9 +116,9 @@ fn is_moment(m: &Vec3<Int>) -> bool
 /// Whether the moments of all atoms have coordinates of size at most 2 · 10^27 in the new basis.
 fn are_moments(cell: &Cell, turn: &Mat3<Int>) -> bool
     requires { EachEntry (AtMost 60000000) turn.now }
-    ensures { IsTrue result ↔ ((a : Site) → IsMember a cell.now.sites → CoordinatesAtMost (2 * 10 ^ 27) (image turn.now a.moment)) }
+    ensures { IsTrue result ↔ ((a : Atom) → IsMember a cell.now.atoms → CoordinatesAtMost (2 * 10 ^ 27) (image turn.now a.moment)) }
 {
-    let _form = cell.count();
+    cell.invariant();
     for i in 0..cell.count() {
         if !is_moment(&turn.apply(&cell.atom(i).moment)) {
             return false;
@@ -130,7 +130,7 @@ fn are_moments(cell: &Cell, turn: &Mat3<Int>) -> bool
 /// Whether the standard cell has at most `MOST_ATOMS` atoms: so many for each atom as the determinant of Q says.
 fn is_few(frame: &Frame, cell: &Cell) -> bool
     requires { IsFrame frame.now }
-    ensures { IsTrue result ↔ (frame.now.index * length cell.now.sites ≤ MOST_ATOMS) }
+    ensures { IsTrue result ↔ (frame.now.index * length cell.now.atoms ≤ MOST_ATOMS) }
 {
     frame.index as usize * cell.count() <= MOST_ATOMS
 }

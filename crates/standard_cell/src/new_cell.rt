@@ -28,7 +28,7 @@ fn cell_in_frame(alloc: Global, frame: &Frame, cell: &Cell) -> Result<Option<Cel
     ensures fits { IfOk result (λ r. IfSome r IsWithinLimits) }
     ensures too_wide { IfOk result (λ r. IfNone r ((s : Structure) → IsStandard cell.now frame.now.turn (origin_of frame.now) s → IsWithinLimits s → ⊥)) }
 {
-    let _form = cell.count();
+    cell.invariant();
     let units = units_of(frame, cell);
     if !has_room(frame, cell, &units) {
         return Ok(None);
@@ -54,7 +54,7 @@ pub fn standard(alloc: Global, prim: &Primitive, map: &Map) -> Result<Option<Cel
     ensures too_wide { IfOk result (λ r. IfNone r ((s : Structure) → IsStandard prim.now.cell map.now.turn (point_of (vector_map fraction_of map.now.origin)) s → IsWithinLimits s → ⊥)) }
 {
     let cell = prim.cell();
-    let _form = cell.count();
+    cell.invariant();
     let Some(origin) = common_origin(&map.origin) else {
         return Ok(None);
     };

@@ -46,7 +46,7 @@ cube = record {
   n = 1;
   k = 1;
   kind = axial_vectors;
-  sites = record { species = 0; position = record { x = pos 0; y = pos 0; z = pos 0 }; moment = record { x = pos 0; y = pos 0; z = pos 1 } } ∷ [];
+  atoms = record { species = 0; position = record { x = pos 0; y = pos 0; z = pos 0 }; moment = record { x = pos 0; y = pos 0; z = pos 1 } } ∷ [];
 }
 
 -- a half turn about c
@@ -64,7 +64,7 @@ skew = record {
   n = 1;
   k = 1;
   kind = axial_vectors;
-  sites = record { species = 0; position = record { x = pos 0; y = pos 0; z = pos 0 }; moment = record { x = negsuc 3; y = pos 2; z = pos 1 } } ∷ [];
+  atoms = record { species = 0; position = record { x = pos 0; y = pos 0; z = pos 0 }; moment = record { x = negsuc 3; y = pos 2; z = pos 1 } } ∷ [];
 }
 
 -- other axes, and an origin that is not that of the primitive cell
@@ -77,7 +77,7 @@ text_of_a_moved_origin = refl
 abbrev scalar : Structure
 scalar = record cube {
   kind = record { vector = false; axial = true };
-  sites = record { species = 0; position = record { x = pos 0; y = pos 0; z = pos 0 }; moment = record { x = pos 1; y = pos 0; z = pos 0 } } ∷ [];
+  atoms = record { species = 0; position = record { x = pos 0; y = pos 0; z = pos 0 }; moment = record { x = pos 1; y = pos 0; z = pos 0 } } ∷ [];
 }
 
 -- the comments stand before the kind line

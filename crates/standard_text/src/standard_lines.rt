@@ -12,11 +12,11 @@ use plain_text::push_decimal;
 use std::alloc::{AllocError, Global};
 
 /// Adds the number and the name of a row as a comment.
-fn push_row(alloc: Global, out: &mut Bytes, row: usize, name: &Bytes) -> Result<(), AllocError>
+fn push_row(out: &mut Bytes, row: usize, name: &Bytes) -> Result<(), AllocError>
     ensures { OnOk result (out.new ≡ out.old ++ row_line row name.now) }
 {
     out.append(b"# row ")?;
-    push_decimal(alloc, out, row as u128)?;
+    push_decimal(out, row as u128)?;
     out.push(b' ')?;
     out.append(name.as_slice())?;
     out.push(b'\n')
@@ -46,9 +46,9 @@ pub fn standard_report(
 {
     let mut out = Bytes::new(alloc);
     push_heading(&mut out, cell.kind())?;
-    push_row(alloc, &mut out, row, name)?;
+    push_row(&mut out, row, name)?;
     push_map_line(alloc, &mut out, map)?;
-    push_cell(alloc, &mut out, cell)?;
+    push_cell(&mut out, cell)?;
     Ok(out)
 }
 

@@ -7,12 +7,12 @@ use plain_text::push_decimal;
 use std::alloc::{AllocError, Global};
 
 /// Adds a line: the word, a space and the number in decimal.
-fn push_line(alloc: Global, out: &mut Bytes, word: &[u8], number: u64) -> Result<(), AllocError>
+fn push_line(out: &mut Bytes, word: &[u8], number: u64) -> Result<(), AllocError>
     ensures { OnOk result (out.new ≡ out.old ++ line_text word.now number) }
 {
     out.append(word)?;
     out.push(b' ')?;
-    push_decimal(alloc, out, number as u128)?;
+    push_decimal(out, number as u128)?;
     out.push(b'\n')
 }
 
@@ -32,10 +32,10 @@ pub fn summary_report(
     ensures value { IfOk result (λ text. text ≡ summary_text atoms index order kind cell_order) }
 {
     let mut out = Bytes::new(alloc);
-    push_line(alloc, &mut out, b"atoms", atoms)?;
-    push_line(alloc, &mut out, b"index", index)?;
-    push_line(alloc, &mut out, b"order", order)?;
-    push_line(alloc, &mut out, b"type", kind as u64)?;
-    push_line(alloc, &mut out, b"cell_order", cell_order)?;
+    push_line(&mut out, b"atoms", atoms)?;
+    push_line(&mut out, b"index", index)?;
+    push_line(&mut out, b"order", order)?;
+    push_line(&mut out, b"type", kind as u64)?;
+    push_line(&mut out, b"cell_order", cell_order)?;
     Ok(out)
 }

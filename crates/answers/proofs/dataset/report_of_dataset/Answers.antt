@@ -3,28 +3,17 @@ use Rattle.crystal_spec.specs.Crystals.{Structure}
 use Rattle.crystal_spec.specs.Operations.{ListsAll}
 use Rattle.site_orbits.specs.Entries.{HaveOrbits}
 use Rattle.report_text.specs.DatasetText.{dataset_text}
-use Rattle.report_text.proofs.DatasetLemmas.{firsts_below}
 use Rattle.command_words.specs.declared.command.Command.TheVariants.{Dataset}
 use Rattle.report_basis.specs.declared.Kept.{Kept}
 use Rattle.answers.specs.DatasetReports.{IsDatasetReport}
 use Rattle.answers.specs.Reports.{IsReport}
-use Rattle.answers.proofs.FoundLemmas.{found_group, found_primitive}
 use Rattle.answers.proofs.dataset.report_of_dataset.Goals as goal
 
 pub order_of-requires : goal.order_of-requires
-order_of-requires c = record { group = c.requires.group }
-
--- all operations of the primitive cell are a group without a further translation
-pub classify-kind-requires : goal.classify-kind-requires
-classify-kind-requires c =
-    let found = c.args.found.now in
-    record {
-      group = found_group c.args.cell.now found.made found.group c.requires;
-      primitive = found_primitive c.args.cell.now found.made found.group c.requires;
-    }
+order_of-requires c = record { group = c.requires.found.group }
 
 pub orbits-requires : goal.orbits-requires
-orbits-requires c = record { primitive = c.requires.cell.primitive; same_cell = sym c.requires.cell.cell; n = c.requires.n; group = c.requires.group }
+orbits-requires c = record { primitive = c.requires.found.cell.primitive; same_cell = sym c.requires.found.cell.cell; n = c.requires.found.n; group = c.requires.found.group }
 
 -- one orbit an atom
 pub dataset_report-requires : goal.dataset_report-requires
@@ -33,7 +22,7 @@ dataset_report-requires c =
     let list = c.in_ok-orbit_list.ensures in
     record {
       same_atoms = c.count.ensures.value ∙ sym list.count;
-      firsts = firsts_below c.args.cell.now found.made.back found.made.cell found.group.operations c.in_ok-orbit_list.orbit_list list.count list.exact;
+      firsts = list.firsts;
     }
 
 -- of the primitive cell and of the cell; in the basis that is kept
@@ -42,9 +31,9 @@ returns c =
     let s = c.args.cell.now in
     let p = c.args.found.now.made in
     let os = c.args.found.now.group.operations in
-    let made = c.requires.cell in
-    let order = c.in_ok-order.ensures s c.requires in
-    let same_n = c.requires.n ∙ ap (λ (t : Structure). t.n) made.cell ∙ made.primitive.same.n in
+    let made = c.requires.found.cell in
+    let order = c.in_ok-order.ensures s c.requires.found in
+    let same_n = c.requires.found.n ∙ ap (λ (t : Structure). t.n) made.cell ∙ made.primitive.same.n in
     let report : IsDatasetReport s p.back c.in_ok-text.text = record {
       primitive = made.primitive;
       niggli = made.niggli;
@@ -52,7 +41,7 @@ returns c =
       index_is = made.index;
       counted = made.counted;
       operations = os;
-      all = subst (λ (t : Structure). ListsAll t os) made.cell c.requires.group;
+      all = subst (λ (t : Structure). ListsAll t os) made.cell c.requires.found.group;
       operations_of_cell = order.operations;
       all_of_cell = order.all;
       kind = c.classify-kind.result;

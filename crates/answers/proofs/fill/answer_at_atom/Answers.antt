@@ -11,7 +11,7 @@ answer_on_site-requires-clause-site_n c =
     let p = c.args.found.now.made in
     let list = c.in_ok-orbit_list.orbit_list in
     let i = c.args.filling.now.atom - 1 in
-    let below : i < length c.args.cell.now.sites = omega (arith, c.requires.at_least, c.requires.at_most) in
+    let below : i < length c.args.cell.now.atoms = omega (arith, c.requires.at_least, c.requires.at_most) in
     let few : i < length list = omega (arith, below, c.in_ok-orbit_list.ensures.count) in
     site_n c.args.cell.now p.back p.cell c.args.found.now.group.operations i list c.site.result.now c.in_ok-orbit_list.ensures.exact few c.site.ensures below
 

@@ -1,1 +1,0 @@
-use Rattle.answers.proofs.fill.answer_fill.Goals as goal

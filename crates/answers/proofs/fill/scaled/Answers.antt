@@ -1,1 +1,0 @@
-use Rattle.answers.proofs.fill.scaled.Goals as goal

@@ -12,6 +12,6 @@ returns c word spelled =
       spelled = spelled;
       operations = os;
       group = c.requires.exact;
-      ordered = c.count-ordered.ensures.ordered;
+      ordered = c.invariant.ensures.ordered;
       lines = c.in_ok-text.ensures ∙ (λ i. operations_text (record { n = n i; operations = os }));
     }

@@ -1,6 +1,6 @@
-use Rattle.std.proofs.Common.{ℕ, subst, sym}
+use Rattle.std.proofs.Common.{ℕ, subst, sym, lit≤}
 use Rattle.op_group.specs.Groups.{IsGroupModulo}
-use Rattle.match_spec.specs.FirstMap.{HasFewMatrices}
+use Rattle.matrix3.proofs.FitsBySize.{entries_grown}
 use Rattle.answers.proofs.IdentifyLemmas.{row_map}
 use Rattle.answers.proofs.StandardLemmas.{group_map}
 use Rattle.answers.proofs.identify.map_of.Goals as goal
@@ -10,15 +10,14 @@ pub match_row-requires : goal.match_row-requires
 match_row-requires c =
     let list = c.in-Ok.list in
     let made = c.in-Ok.ensures in
-    let few : HasFewMatrices 48 list.operations = record { matrices = made.few_matrices.matrices; all = made.few_matrices.all; few = made.few_matrices.few } in
     record {
       twelfths = made.n;
       symbol_group = subst (λ (n : ℕ). IsGroupModulo n list.operations) (sym made.n) made.group;
       found_group = c.requires.group;
       primitive = c.requires.primitive;
-      few = few;
+      few = made.few_matrices;
       symbol_entries = made.entries;
-      found_entries = c.requires.entries;
+      found_entries = λ o m. entries_grown (lit≤ tt) (c.requires.small o m);
       found_n = c.requires.n;
     }
 

@@ -1,4 +1,4 @@
-use Rattle.std.proofs.Common.{◌≡◌, sym, subst}
+use Rattle.std.proofs.Common.{sym, subst}
 use Rattle.crystal_spec.specs.Crystals.{Structure}
 use Rattle.moments_text.specs.MomentsText.{AreOrbits}
 use Rattle.command_words.specs.declared.command.Command.TheVariants.{Moments}

@@ -4,16 +4,7 @@ use Rattle.crystal_spec.specs.Operations.{ListsAll}
 use Rattle.summary_text.specs.SummaryText.{summary_text}
 use Rattle.report_basis.specs.declared.Kept.{Kept}
 use Rattle.answers.specs.SummaryReports.{IsSummary, IsSeedReport}
-use Rattle.answers.proofs.FoundLemmas.{found_group, found_primitive}
 use Rattle.answers.proofs.selfrun.report_of_summary.Goals as goal
-
--- all operations of the primitive cell are a group
-pub classify-kind-requires-clause-group : goal.classify-kind-requires-clause-group
-classify-kind-requires-clause-group c = found_group c.args.cell.now c.args.found.now.made c.args.found.now.group c.requires.found
-
--- without a further translation
-pub classify-kind-requires-clause-primitive : goal.classify-kind-requires-clause-primitive
-classify-kind-requires-clause-primitive c = found_primitive c.args.cell.now c.args.found.now.made c.args.found.now.group c.requires.found
 
 -- of the primitive cell and of the cell; in the basis that is kept
 pub returns : goal.returns

@@ -1,4 +1,4 @@
-use Rattle.std.proofs.Common.{◌≡◌, sym, subst, ◌+◌, suc, true, arith, add-one}
+use Rattle.std.proofs.Common.{sym, subst, ◌+◌, true, arith, add-one}
 use Rattle.std.specs.Prelude.{IfSome, IfNone}
 use Rattle.std.specs.declared.option.Option.{Option}
 use Rattle.crystal_spec.specs.Crystals.{Structure}

@@ -13,8 +13,8 @@ overflow_cast-number c =
     let number : c.in_ok-number.number ≡ number_of names c.in_ok-name.name.items = c.in_ok-number.ensures.number ∙ ap (λ (ns : List (List ℕ)). number_of ns c.in_ok-name.name.items) c.requires.names in
     record { fits = is_small names c.in_ok-name.name.items c.in_ok-number.number number c.requires.fewer_names }
 
-pub add-requires-clause-site : goal.add-requires-clause-site
-add-requires-clause-site c =
+pub add-requires-clause-atom : goal.add-requires-clause-atom
+add-requires-clause-atom c =
     let names = c.args.cell.now.names in
     let number : c.in_ok-number.number ≡ number_of names c.in_ok-name.name.items = c.in_ok-number.ensures.number ∙ ap (λ (ns : List (List ℕ)). number_of ns c.in_ok-name.name.items) c.requires.names in
     let same : c.args.atom.now.name ≡ c.in_ok-name.name.items = sym (c.in_ok-name.ensures.items ∙ c.as_bytes.ensures) in

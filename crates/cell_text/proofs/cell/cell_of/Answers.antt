@@ -8,7 +8,7 @@ use Rattle.cell_text.specs.CellFile.{names_of, moment_of}
 use Rattle.cell_text.specs.Filling.{filled}
 use Rattle.cell_text.specs.Views.{atom_view}
 use Rattle.cell_text.specs.Readers.{metric_view, kinds_of, kind_or_default}
-use Rattle.cell_text.proofs.Fillings.{split_at, rest_at, first_at, next_at, all_taken, scalar_moment, kind_added, kind_at, filled_first, first_name, free_more, fewer_sites, fewer_names, filled_next, names_next, filled_all}
+use Rattle.cell_text.proofs.Fillings.{split_at, rest_at, first_at, next_at, all_taken, scalar_moment, kind_added, kind_at, filled_first, first_name, free_more, fewer_atoms, fewer_names, filled_next, names_next, filled_all}
 use Rattle.cell_text.proofs.cell.cell_of.Goals as goal
 
 pub loop-atom-init : goal.loop-atom-init
@@ -71,7 +71,7 @@ add_atom-requires-clause-fewer c =
     let i = c.loop-atom.atom-index in
     let at = rest_at atoms i c.atom-item.result c.loop-atom-test.true c.atom-item.is in
     let few : length (map atom_view atoms) ≤ MOST_ATOMS = omega (arith, length-map atoms atom_view, c.requires.few) in
-    fewer_sites (kind_or_default c.args.kind.now) (metric_view c.args.metric.now) c.args.n c.args.k (map atom_view atoms) (map atom_view (take (suc i) atoms)) (atom_view c.atom-item.result) (map atom_view (drop (suc (suc i)) atoms)) c.loop-atom.cell (split_at atoms (suc i) c.atom-item.result at.0 at.1) few c.loop-atom.invariant.cell
+    fewer_atoms (kind_or_default c.args.kind.now) (metric_view c.args.metric.now) c.args.n c.args.k (map atom_view atoms) (map atom_view (take (suc i) atoms)) (atom_view c.atom-item.result) (map atom_view (drop (suc (suc i)) atoms)) c.loop-atom.cell (split_at atoms (suc i) c.atom-item.result at.0 at.1) few c.loop-atom.invariant.cell
 
 pub loop-atom-preserved : goal.loop-atom-preserved
 loop-atom-preserved c =

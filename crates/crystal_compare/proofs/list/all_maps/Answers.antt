@@ -14,7 +14,7 @@ use Rattle.crystal_compare.proofs.Listing.{increasing_in_cells, lists_maps, miss
 use Rattle.crystal_compare.proofs.list.all_maps.Goals as goal
 
 pub invariant_of-result : goal.invariant_of-result
-invariant_of-result c = subst (IsIncreasing map_order) (sym c.in_ok-items.ensures) (increasing_in_cells c.cell-first.result.now c.cell-second.result.now c.in_ok-found.found c.count-first.ensures.form c.count-second.ensures.form c.count-found.ensures.ordered)
+invariant_of-result c = subst (IsIncreasing map_order) (sym c.in_ok-items.ensures) (increasing_in_cells c.cell-first.result.now c.cell-second.result.now c.in_ok-found.found c.invariant-3.ensures.form c.invariant-4.ensures.form c.count-found.ensures.ordered)
 
 pub returns-clause-exact : goal.returns-clause-exact
 returns-clause-exact c =
@@ -25,9 +25,9 @@ returns-clause-exact c =
     let os = c.in_ok-found.found in
     let is : map map_of c.in_ok-items.items.items ≡ map (shifted (steps a b)) os = c.in_ok-items.ensures ∙ (λ i. map (shifted (steps (e i) (f i))) os) in
     let found = subst (λ (y : Structure). (o : Operation) → IsMember o os ↔ IsSmallMap a y o) (c.in_ok-places.ensures ∙ f) (subst (λ (x : Structure). (o : Operation) → IsMember o os ↔ IsSmallMap x c.in_ok-places.places o) e c.in_ok-found.ensures) in
-    let p = c.index-one.ensures.form in
-    let q = c.index-other.ensures.form in
-    subst (ListsMaps a b) (sym is) (lists_maps a b (record { cell = subst IsCellWithinLimits e c.count-first.ensures.form; cell' = subst IsCellWithinLimits f c.count-second.ensures.form; primitive = p.primitive; primitive' = q.primitive }) p.niggli q.niggli os found c.count-found.ensures.ordered)
+    let p = c.invariant.ensures.form in
+    let q = c.invariant-2.ensures.form in
+    subst (ListsMaps a b) (sym is) (lists_maps a b (record { cell = subst IsCellWithinLimits e c.invariant-3.ensures.form; cell' = subst IsCellWithinLimits f c.invariant-4.ensures.form; primitive = p.primitive; primitive' = q.primitive }) p.niggli q.niggli os found c.count-found.ensures.ordered)
 
 pub returns-clause-nothing_missed : goal.returns-clause-nothing_missed
 returns-clause-nothing_missed c m t d sign h =
@@ -38,9 +38,9 @@ returns-clause-nothing_missed c m t d sign h =
     let os = c.in_ok-found.found in
     let is : map map_of c.in_ok-items.items.items ≡ map (shifted (steps a b)) os = c.in_ok-items.ensures ∙ (λ i. map (shifted (steps (e i) (f i))) os) in
     let found = subst (λ (y : Structure). (o : Operation) → IsMember o os ↔ IsSmallMap a y o) (c.in_ok-places.ensures ∙ f) (subst (λ (x : Structure). (o : Operation) → IsMember o os ↔ IsSmallMap x c.in_ok-places.places o) e c.in_ok-found.ensures) in
-    let p = c.index-one.ensures.form in
-    let q = c.index-other.ensures.form in
-    subst (λ (l : List AffineMap). IsListedIn l m t d sign) (sym is) (misses_nothing a b (record { cell = subst IsCellWithinLimits e c.count-first.ensures.form; cell' = subst IsCellWithinLimits f c.count-second.ensures.form; primitive = p.primitive; primitive' = q.primitive }) p.niggli q.niggli os found m t d sign h)
+    let p = c.invariant.ensures.form in
+    let q = c.invariant-2.ensures.form in
+    subst (λ (l : List AffineMap). IsListedIn l m t d sign) (sym is) (misses_nothing a b (record { cell = subst IsCellWithinLimits e c.invariant-3.ensures.form; cell' = subst IsCellWithinLimits f c.invariant-4.ensures.form; primitive = p.primitive; primitive' = q.primitive }) p.niggli q.niggli os found m t d sign h)
 
 pub returns-clause-groups : goal.returns-clause-groups
 returns-clause-groups c x m =
@@ -51,7 +51,7 @@ returns-clause-groups c x m =
     let os = c.in_ok-found.found in
     let is : map map_of c.in_ok-items.items.items ≡ map (shifted (steps a b)) os = c.in_ok-items.ensures ∙ (λ i. map (shifted (steps (e i) (f i))) os) in
     let found = subst (λ (y : Structure). (o : Operation) → IsMember o os ↔ IsSmallMap a y o) (c.in_ok-places.ensures ∙ f) (subst (λ (x : Structure). (o : Operation) → IsMember o os ↔ IsSmallMap x c.in_ok-places.places o) e c.in_ok-found.ensures) in
-    let p = c.index-one.ensures.form in
-    let q = c.index-other.ensures.form in
-    let both : ArePrimitive a b = record { cell = subst IsCellWithinLimits e c.count-first.ensures.form; cell' = subst IsCellWithinLimits f c.count-second.ensures.form; primitive = p.primitive; primitive' = q.primitive } in
+    let p = c.invariant.ensures.form in
+    let q = c.invariant-2.ensures.form in
+    let both : ArePrimitive a b = record { cell = subst IsCellWithinLimits e c.invariant-3.ensures.form; cell' = subst IsCellWithinLimits f c.invariant-4.ensures.form; primitive = p.primitive; primitive' = q.primitive } in
     subst (HaveGroupsAlike a b) (sym is) (maps_alike a b both p.niggli q.niggli os found c.count-found.ensures.ordered x (subst (IsMember x) is m))

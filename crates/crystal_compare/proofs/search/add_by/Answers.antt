@@ -6,8 +6,8 @@ use Rattle.lists.proofs.Any.{more_below, same_below}
 use Rattle.crystal_spec.specs.Crystals.{Structure}
 use Rattle.crystal_spec.specs.Operations.{Operation}
 use Rattle.crystal.specs.Cells.{IsCellWithinLimits}
-use Rattle.crystal.specs.Views.{site_of}
-use Rattle.crystal.proofs.CellLemmas.{site_member}
+use Rattle.crystal.specs.Views.{atom_of}
+use Rattle.crystal.proofs.CellLemmas.{atom_member}
 use Rattle.crystal_compare.specs.Maps.{HaveOneName}
 use Rattle.crystal_compare.specs.Search.{IsMapOntoNumber}
 use Rattle.crystal_compare.proofs.Finding.{by_atoms, onto_number, not_onto_number}
@@ -17,17 +17,17 @@ use Rattle.crystal_compare.proofs.search.add_by.Goals.{then-have_one_name+in_ok-
 pub have_one_name-requires-clause-first : goal.have_one_name-requires-clause-first
 have_one_name-requires-clause-first c =
     let one = c.args.one.now in
-    (site_member (length one.names) one.n one.kind one.sites (site_of c.args.from.now) c.count-one.ensures.form.sites c.requires.of_cell).named
+    (atom_member (length one.names) one.n one.kind one.atoms (atom_of c.args.from.now) c.invariant.ensures.form.atoms c.requires.of_cell).named
 
 pub loop-i-preserved : goal.loop-i-preserved
 loop-i-preserved c o =
     let one = c.args.one.now in
     let s = c.args.other.now in
     let w = c.args.w.now in
-    let a = site_of c.args.from.now in
-    let b = site_of c.atom-onto.result.now in
+    let a = atom_of c.args.from.now in
+    let b = atom_of c.atom-onto.result.now in
     let P = IsMapOntoNumber one s w a o in
-    let at = subst (λ (t : Structure). slice_get t.sites c.loop-i.i ≡ Some b) c.cell-cell.ensures c.atom-onto.ensures.value in
+    let at = subst (λ (t : Structure). slice_get t.atoms c.loop-i.i ≡ Some b) c.cell-cell.ensures c.atom-onto.ensures.value in
     let name = subst (λ (t : Structure). IsTrue c.have_one_name.result ↔ HaveOneName one t a.species b.species) c.cell-cell.ensures c.have_one_name.ensures in
     elim c.if-have_one_name.branch [
       | then-have_one_name+in_ok-add_onto v ↦
@@ -44,10 +44,10 @@ pub returns : goal.returns
 returns c =
     let one = c.args.one.now in
     let s = c.args.other.now in
-    let a = site_of c.args.from.now in
-    let all : c.count-i-end.result ≡ length s.sites = c.count-i-end.ensures.value ∙ ap (λ (t : Structure). length t.sites) c.cell-cell.ensures in
-    let ended : c.loop-i.i ≡ length s.sites = omega arith in
+    let a = atom_of c.args.from.now in
+    let all : c.count-i-end.result ≡ length s.atoms = c.count-i-end.ensures.value ∙ ap (λ (t : Structure). length t.atoms) c.cell-cell.ensures in
+    let ended : c.loop-i.i ≡ length s.atoms = omega arith in
     record {
-      members = λ o. by_atoms one s c.args.w.now a o _ _ c.count-one.ensures.form (subst IsCellWithinLimits c.cell-cell.ensures c.count-i-end.ensures.form) c.requires.of_cell
+      members = λ o. by_atoms one s c.args.w.now a o _ _ c.invariant.ensures.form (subst IsCellWithinLimits c.cell-cell.ensures c.count-i-end.ensures.form) c.requires.of_cell
           (subst (λ (k : ℕ). IsMember o c.loop-i.found ↔ (AnyBelow k (IsMapOntoNumber one s c.args.w.now a o) ⊎ IsMember o c.args.found.now)) ended (c.loop-i.invariant o));
     }

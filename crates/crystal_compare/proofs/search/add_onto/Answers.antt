@@ -3,7 +3,7 @@ use Rattle.std.specs.Prelude.{◌↔◌}
 use Rattle.lists.specs.Increasing.{IsMember}
 use Rattle.crystal_spec.specs.Matrices.{image, multiple, difference}
 use Rattle.crystal_spec.specs.Crystals.{Structure}
-use Rattle.crystal.specs.Views.{site_of}
+use Rattle.crystal.specs.Views.{atom_of}
 use Rattle.positions.specs.Positions.{IsModulo}
 use Rattle.crystal_compare.specs.Steps.{operation_of}
 use Rattle.crystal_compare.specs.declared.whole_map.WholeMap.{WholeMap}
@@ -16,8 +16,8 @@ returns c =
     let one = c.args.one.now in
     let s = c.args.other.now in
     let w = c.args.w.now in
-    let a = site_of c.args.from.now in
-    let b = site_of c.args.onto.now in
+    let a = atom_of c.args.from.now in
+    let b = atom_of c.args.onto.now in
     let t = c.translation_onto-shift.result in
     let n = c.n.ensures in
     let m = c.n-2.ensures ∙ ap (λ (x : Structure). x.n) c.cell-2.ensures in

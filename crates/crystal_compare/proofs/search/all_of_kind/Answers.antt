@@ -7,7 +7,7 @@ use Rattle.lists.proofs.Any.{alone_more, alone_same}
 use Rattle.crystal_spec.specs.Matrices.{Triple}
 use Rattle.crystal_spec.specs.Crystals.{Structure}
 use Rattle.crystal_spec.specs.Operations.{Operation}
-use Rattle.crystal.specs.Views.{site_of}
+use Rattle.crystal.specs.Views.{atom_of}
 use Rattle.lattice_iso.specs.Columns.{candidate}
 use Rattle.crystal_compare.specs.Search.{AreMetricsOf, IsMapOfOne}
 use Rattle.crystal_compare.proofs.Finding.{not_first_column}
@@ -15,7 +15,7 @@ use Rattle.crystal_compare.proofs.search.all_of_kind.Goals as goal
 use Rattle.crystal_compare.proofs.search.all_of_kind.Goals.{then-is_first_column+in_ok-add_of_one, else-is_first_column}
 
 pub add_of_one-requires-clause-of_cell : goal.add_of_one-requires-clause-of_cell
-add_of_one-requires-clause-of_cell c = member_at c.args.one.now.sites c.rarest.result (site_of c.atom-from.result.now) c.atom-from.ensures.value
+add_of_one-requires-clause-of_cell c = member_at c.args.one.now.atoms c.rarest.result (atom_of c.atom-from.result.now) c.atom-from.ensures.value
 
 pub loop-number-preserved : goal.loop-number-preserved
 loop-number-preserved c o =

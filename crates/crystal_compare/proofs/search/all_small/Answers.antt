@@ -22,7 +22,7 @@ returns-then-ne c o =
           no_map_of_kinds one s o (λ e. other (c.kind.ensures ∙ e ∙ sym (c.kind-2.ensures ∙ ap (λ (t : Structure). t.kind) same)))
       | then-ne-via-else-ne+then-count w ↦
           let other : w.count.result ≡ w.count-else-ne.result → ⊥ = search rules in
-          no_map_of_counts one s o c.count-one.ensures.form (subst IsCellWithinLimits same c.count-other.ensures.form) (λ e. other (w.count.ensures.value ∙ e ∙ sym (w.count-else-ne.ensures.value ∙ ap (λ (t : Structure). length t.sites) same)))
+          no_map_of_counts one s o c.invariant.ensures.form (subst IsCellWithinLimits same c.invariant-2.ensures.form) (λ e. other (w.count.ensures.value ∙ e ∙ sym (w.count-else-ne.ensures.value ∙ ap (λ (t : Structure). length t.atoms) same)))
     ])
 
 pub returns : goal.returns

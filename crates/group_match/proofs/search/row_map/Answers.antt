@@ -28,7 +28,7 @@ step_basis-steps-requires-clause-few c =
     let n = c.args.found.now.n in
     let m = c.args.found.now.operations in
     let gh : IsGroupModulo 12 h = subst (λ (k : ℕ). IsGroupModulo k h) c.requires.twelfths c.requires.symbol_group in
-    few_operations h (increasing_distinct compare_of compare_total h c.count-symbol_form.ensures.ordered) gh.within_cell c.requires.few
+    few_operations h (increasing_distinct compare_of compare_total h c.invariant.ensures.ordered) gh.within_cell c.requires.few
 
 pub returns-then-not-are_as_many-clause-absent : goal.returns-then-not-are_as_many-clause-absent
 returns-then-not-are_as_many-clause-absent c =
@@ -36,7 +36,7 @@ returns-then-not-are_as_many-clause-absent c =
     let n = c.args.found.now.n in
     let m = c.args.found.now.operations in
     let gh : IsGroupModulo 12 h = subst (λ (k : ℕ). IsGroupModulo k h) c.requires.twelfths c.requires.symbol_group in
-    let once = increasing_distinct compare_of compare_total m c.count-found_form.ensures.ordered in
+    let once = increasing_distinct compare_of compare_total m c.invariant-2.ensures.ordered in
     let s = c.step_basis-steps.result in
     let steps : IsSteps 12 (InLattice 12 h) s.index s.back s.fore = subst (λ (k : ℕ). IsSteps k (InLattice k h) s.index s.back s.fore) c.requires.twelfths c.step_basis-steps.ensures.steps in
     let sm : IsStepMatrix h s.back = record { index = s.index; fore = s.fore; steps = steps } in
@@ -92,7 +92,7 @@ compared_map-requires-clause-task c =
     let n = c.args.found.now.n in
     let m = c.args.found.now.operations in
     let gh : IsGroupModulo 12 h = subst (λ (k : ℕ). IsGroupModulo k h) c.requires.twelfths c.requires.symbol_group in
-    let once = increasing_distinct compare_of compare_total m c.count-found_form.ensures.ordered in
+    let once = increasing_distinct compare_of compare_total m c.invariant-2.ensures.ordered in
     let rs = map operation_of c.in_ok-reps.reps.items in
     let ar : AreRepresentatives h rs = c.in_ok-reps.ensures in
     record {

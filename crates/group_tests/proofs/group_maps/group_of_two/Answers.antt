@@ -1,11 +1,9 @@
 use Rattle.std.proofs.Common.{◌≡◌, ◌≤◌, ap, sym, subst, arith}
 use Rattle.op_group.specs.Views.{operation_of}
-use Rattle.op_group.specs.Lists.{OperationList}
+use Rattle.op_group.specs.Lists.{OperationList, HasEntriesAtMost, HasFewMatrices}
 use Rattle.op_group.specs.Groups.{IsGroupModulo}
 use Rattle.mag_type.specs.MagneticTypes.{HasOnlyZeroTranslation}
 use Rattle.group_tests.proofs.PairGroups.{group_of_two, primitive_of_two}
-use Rattle.match_spec.specs.FirstMap.{HasFewMatrices}
-use Rattle.group_match.specs.Tasks.{HasEntriesAtMost}
 use Rattle.group_tests.proofs.ListedPairs.{pair_list, few_of_two, entries_of_two, two_inserted}
 use Rattle.group_tests.proofs.group_maps.group_of_two.Goals.{In_ok-insert-2}
 use Rattle.group_tests.proofs.group_maps.group_of_two.Goals as goal

@@ -20,13 +20,13 @@ sorted-requires c = record { below_n = listing_within c.in_ok-table.table (map o
 pub returns-clause-exact : goal.returns-clause-exact
 returns-clause-exact c =
     let h = subst (λ (ds : List Pure). HaveSteps (map operation_of c.args.reps.now) (map pure_of ds) (map operation_of c.args.reps.now) (map operation_of c.args.gens.now)) (sym c.deref.ensures.value) c.in_ok-steps.ensures in
-    group_listed (map operation_of c.args.gens.now) (map operation_of c.args.reps.now) (map pure_of c.deref.result.now) (map operation_of c.in_ok-ops.ops.items) c.sorted.result.operations c.in_ok-table.table c.requires.stand h c.in_ok-table.ensures.closed c.in_ok-table.ensures.made c.in_ok-ops.ensures c.sorted.ensures.exact
+    group_listed (map operation_of c.args.gens.now) (map operation_of c.args.reps.now) (map pure_of c.deref.result.now) (map operation_of c.in_ok-ops.ops.items) c.in_ok-list.list.operations c.in_ok-table.table c.requires.stand h c.in_ok-table.ensures.closed c.in_ok-table.ensures.made c.in_ok-ops.ensures c.in_ok-list.ensures.exact
 
 pub returns-clause-group : goal.returns-clause-group
-returns-clause-group c = products_group (map operation_of c.args.gens.now) c.sorted.result.operations c.requires.rotations (returns-clause-exact c)
+returns-clause-group c = products_group (map operation_of c.args.gens.now) c.in_ok-list.list.operations c.requires.rotations (returns-clause-exact c)
 
 pub returns-clause-few_matrices : goal.returns-clause-few_matrices
-returns-clause-few_matrices c = products_matrices (map operation_of c.args.gens.now) (map operation_of c.args.reps.now) c.sorted.result.operations c.requires.stand (returns-clause-exact c)
+returns-clause-few_matrices c = products_matrices (map operation_of c.args.gens.now) (map operation_of c.args.reps.now) c.in_ok-list.list.operations c.requires.stand (returns-clause-exact c)
 
 pub returns-clause-entries : goal.returns-clause-entries
-returns-clause-entries c = products_entries (map operation_of c.args.gens.now) (map operation_of c.args.reps.now) c.sorted.result.operations c.requires.stand (returns-clause-exact c)
+returns-clause-entries c = products_entries (map operation_of c.args.gens.now) (map operation_of c.args.reps.now) c.in_ok-list.list.operations c.requires.stand (returns-clause-exact c)

@@ -1,5 +1,5 @@
 use Rattle.std.proofs.Common.{◌∙◌}
-use Rattle.lattice_iso.proofs.Places.{matrix_order_by_entries}
+use Rattle.lattice_iso.proofs.MatrixPlaces.{matrix_order_by_entries}
 use Rattle.lattice_iso.proofs.list.compare.Goals as goal
 
 pub returns : goal.returns

@@ -1,7 +1,7 @@
 use Rattle.std.proofs.Common.{rules}
 use Rattle.std.proofs.lemmas.Fn.{always_returns_same}
 use Rattle.lattice_iso.specs.Isometries.{matrix_order}
-use Rattle.lattice_iso.proofs.Places.{matrix_placed}
+use Rattle.lattice_iso.proofs.MatrixPlaces.{matrix_placed}
 use Rattle.lattice_iso.proofs.list.position.Goals as goal
 
 -- the closure compares a matrix of the list with this one

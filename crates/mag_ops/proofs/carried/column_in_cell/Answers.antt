@@ -2,7 +2,7 @@ use Rattle.std.proofs.Common.{◌≡◌, ◌∙◌, ◌^◌, ◌*◌, ◌+◌, �
 use Rattle.crystal_spec.specs.Matrices.{Matrix, image, multiple}
 use Rattle.matrix3.specs.Bounds.{EntriesAtMost, CoordinatesAtMost}
 use Rattle.matrix3.proofs.FitsBySize.{image_fits, image_size, coordinates_grown}
-use Rattle.mag_ops.proofs.Carrying.{some_then, none_then, index_at_least, column_found, column_taken, column_small}
+use Rattle.mag_ops.proofs.CarriedBack.{some_then, none_then, index_at_least, column_found, column_taken, column_small}
 use Rattle.mag_ops.proofs.carried.column_in_cell.Goals as goal
 
 pub apply-times_index-requires-clause-fits : goal.apply-times_index-requires-clause-fits

@@ -1,6 +1,6 @@
 use Rattle.std.proofs.Common.{◌≡◌, pos, ap}
 use Rattle.crystal_spec.specs.Matrices.{Triple, multiple}
-use Rattle.mag_ops.proofs.Carrying.{none_of, quotient_is, not_zero}
+use Rattle.mag_ops.proofs.CarriedBack.{none_of, quotient_is, not_zero}
 use Rattle.mag_ops.proofs.carried.divided.Goals as goal
 
 pub returns-in_err-div_exact-clause-absent : goal.returns-in_err-div_exact-clause-absent

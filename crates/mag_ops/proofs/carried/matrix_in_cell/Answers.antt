@@ -2,32 +2,32 @@ use Rattle.std.proofs.Common.{◌≡◌, ◌∙◌, ◌^◌, ◌*◌, ◌+◌, s
 use Rattle.crystal_spec.specs.Matrices.{Matrix, product}
 use Rattle.matrix3.specs.Bounds.{EntriesAtMost, CoordinatesAtMost}
 use Rattle.matrix3.proofs.FitsBySize.{grown, product_fits, product_size}
-use Rattle.mag_ops.proofs.Carrying.{none_of, column1_of, column2_of, column3_of}
+use Rattle.mag_ops.proofs.CarriedBack.{none_of, column1_of, column2_of, column3_of}
 use Rattle.matrix3.specs.Matrices.{column1, column2, column3}
 use Rattle.mag_ops.proofs.carried.matrix_in_cell.Goals as goal
 
 pub times-turned-requires-clause-fits : goal.times-turned-requires-clause-fits
 times-turned-requires-clause-fits c =
-    product_fits _ _ c.requires (subst (EntriesAtMost (50 * 10 ^ 6)) (sym c.back.ensures) c.index-index.ensures.form.back_entries) tt
+    product_fits _ _ c.requires (subst (EntriesAtMost (50 * 10 ^ 6)) (sym c.back.ensures) c.invariant.ensures.form.back_entries) tt
 
 pub column_in_cell-requires : goal.column_in_cell-requires
 column_in_cell-requires c =
     let m = 1 * (50 * 10 ^ 6) + 1 * (50 * 10 ^ 6) + 1 * (50 * 10 ^ 6) in
-    let back = subst (EntriesAtMost (50 * 10 ^ 6)) (sym c.back.ensures) c.index-index.ensures.form.back_entries in
+    let back = subst (EntriesAtMost (50 * 10 ^ 6)) (sym c.back.ensures) c.invariant.ensures.form.back_entries in
     let small = subst (EntriesAtMost m) (sym c.times-turned.ensures.value) (product_size c.args.v.now c.back.result.now c.requires back) in
     subst (CoordinatesAtMost (2 ^ 32)) (sym c.columns-first.ensures.first) (record { x = grown (lit≤ tt) small.a11; y = grown (lit≤ tt) small.a21; z = grown (lit≤ tt) small.a31 })
 
 pub column_in_cell-requires-2 : goal.column_in_cell-requires-2
 column_in_cell-requires-2 c =
     let m = 1 * (50 * 10 ^ 6) + 1 * (50 * 10 ^ 6) + 1 * (50 * 10 ^ 6) in
-    let back = subst (EntriesAtMost (50 * 10 ^ 6)) (sym c.back.ensures) c.index-index.ensures.form.back_entries in
+    let back = subst (EntriesAtMost (50 * 10 ^ 6)) (sym c.back.ensures) c.invariant.ensures.form.back_entries in
     let small = subst (EntriesAtMost m) (sym c.times-turned.ensures.value) (product_size c.args.v.now c.back.result.now c.requires back) in
     subst (CoordinatesAtMost (2 ^ 32)) (sym c.columns-first.ensures.second) (record { x = grown (lit≤ tt) small.a12; y = grown (lit≤ tt) small.a22; z = grown (lit≤ tt) small.a32 })
 
 pub column_in_cell-requires-3 : goal.column_in_cell-requires-3
 column_in_cell-requires-3 c =
     let m = 1 * (50 * 10 ^ 6) + 1 * (50 * 10 ^ 6) + 1 * (50 * 10 ^ 6) in
-    let back = subst (EntriesAtMost (50 * 10 ^ 6)) (sym c.back.ensures) c.index-index.ensures.form.back_entries in
+    let back = subst (EntriesAtMost (50 * 10 ^ 6)) (sym c.back.ensures) c.invariant.ensures.form.back_entries in
     let small = subst (EntriesAtMost m) (sym c.times-turned.ensures.value) (product_size c.args.v.now c.back.result.now c.requires back) in
     subst (CoordinatesAtMost (2 ^ 32)) (sym c.columns-first.ensures.third) (record { x = grown (lit≤ tt) small.a13; y = grown (lit≤ tt) small.a23; z = grown (lit≤ tt) small.a33 })
 

@@ -8,7 +8,7 @@ use Rattle.crystal_spec.specs.Operations.{Operation, sign_factor, compare_of}
 use Rattle.positions.specs.Positions.{triple_of}
 use Rattle.op_group.specs.Views.{operation_of}
 use Rattle.mag_ops.specs.Candidates.{IsKeptAs}
-use Rattle.mag_ops.proofs.Found.{kept_added}
+use Rattle.mag_ops.proofs.KeptMaps.{kept_added}
 use Rattle.mag_ops.proofs.full.add_kept.Goals as goal
 
 pub returns-in_ok-insert-clause-members : goal.returns-in_ok-insert-clause-members

@@ -6,12 +6,14 @@ use Rattle.matrix3.specs.Bounds.{EntriesAtMost}
 use Rattle.std.specs.Prelude.{◌↔◌}
 use Rattle.crystal_spec.specs.Crystals.{Structure}
 use Rattle.crystal_spec.specs.Operations.{Operation}
-use Rattle.basis_spec.specs.Translations.{of_species, IsRarest}
+use Rattle.crystal_spec.specs.Species.{of_species, IsRarest}
+use Rattle.crystal.specs.Views.{atom_of}
 use Rattle.mag_ops.specs.Candidates.{IsKeptBy, IsFoundBelow}
 use Rattle.mag_ops.specs.Groups.{signs}
 use Rattle.matrix3.proofs.FitsBySize.{entries_grown}
-use Rattle.mag_ops.proofs.Found.{found_more, found_all}
-use Rattle.mag_ops.proofs.Counts.{cost_at, rarest_once, tested_more, tested_in_all, listed_from_none}
+use Rattle.mag_ops.proofs.KeptMaps.{found_more, found_all}
+use Rattle.mag_ops.proofs.Counts.{cost_at, tested_more, tested_in_all, listed_from_none}
+use Rattle.crystal_spec.proofs.Species.{rarest_once}
 use Rattle.mag_ops.proofs.full.all_kept.Goals as goal
 
 pub add_kept_by-requires-clause-small : goal.add_kept_by-requires-clause-small
@@ -24,12 +26,26 @@ action-action-requires-clause-map g c = entries_grown (lit≤ tt) (c.requires.sm
 pub action-action-requires-clause-isometry : goal.action-action-requires-clause-isometry
 action-action-requires-clause-isometry g c = (c.requires.isometries.exact c.at.result.now).0 (member_at c.args.matrices.now c.loop-i.i c.at.result.now c.at.ensures)
 
+-- the atom of a rarest species is one of the cell
+pub add_kept_by-requires-clause-of_cell : goal.add_kept_by-requires-clause-of_cell
+add_kept_by-requires-clause-of_cell g c =
+    subst (λ (t : Structure). IsMember (atom_of c.atom-from.result.now) t.atoms) c.cell-cell.ensures (member_at c.cell-cell.result.now.atoms c.rarest.result (atom_of c.atom-from.result.now) c.atom-from.ensures.value)
+
+pub returns-clause-ticks_at_most : goal.returns-clause-ticks_at_most
+returns-clause-ticks_at_most g c count rarest =
+    let s = c.args.places.now in
+    let ws = c.args.matrices.now in
+    let cost = length (of_species c.atom-from.result.now.species s.atoms) in
+    let least = subst (λ (t : Structure). IsRarest t (length (of_species c.atom-from.result.now.species t.atoms))) c.cell-cell.ensures (c.rarest.ensures.rarest (atom_of c.atom-from.result.now) c.atom-from.ensures.value) in
+    subst (λ (k : ℕ). c.loop-i.steps ≤ c.args.steps.now + signs c.args.time * (length ws * k)) (rarest_once s cost count least rarest)
+    (tested_in_all c.args.time c.args.steps.now (length ws * cost) c.loop-i.steps _ c.loop-i.invariant.at_most)
+
 pub returns-in_err-add_kept_by-clause-ticks_at_most : goal.returns-in_err-add_kept_by-clause-ticks_at_most
 returns-in_err-add_kept_by-clause-ticks_at_most g c count rarest =
     let s = c.args.places.now in
     let ws = c.args.matrices.now in
-    let cost = length (of_species c.rarest-from.result.now.species s.sites) in
-    let least = subst (λ (t : Structure). IsRarest t (length (of_species c.rarest-from.result.now.species t.sites))) c.cell-cell.ensures c.rarest-from.ensures.rarest in
+    let cost = length (of_species c.atom-from.result.now.species s.atoms) in
+    let least = subst (λ (t : Structure). IsRarest t (length (of_species c.atom-from.result.now.species t.atoms))) c.cell-cell.ensures (c.rarest.ensures.rarest (atom_of c.atom-from.result.now) c.atom-from.ensures.value) in
     let rest = tested_more c.args.time c.args.steps.now (length ws * cost) c.loop-i.steps c.add_kept_by.new.steps (length (drop c.loop-i.i ws) * cost) (length (drop (c.loop-i.i + 1) ws) * cost) cost (cost_at ws c.loop-i.i c.at.result.now cost c.at.ensures) c.loop-i.invariant.at_most c.in_err-add_kept_by.ensures.ticks_at_most in
     subst (λ (k : ℕ). c.add_kept_by.new.steps ≤ c.args.steps.now + signs c.args.time * (length ws * k)) (rarest_once s cost count least rarest)
     (tested_in_all c.args.time c.args.steps.now (length ws * cost) c.add_kept_by.new.steps _ rest)
@@ -38,7 +54,7 @@ pub loop-i-preserved : goal.loop-i-preserved
 loop-i-preserved g c =
     let s = c.args.places.now in
     let ws = c.args.matrices.now in
-    let cost = length (of_species c.rarest-from.result.now.species s.sites) in
+    let cost = length (of_species c.atom-from.result.now.species s.atoms) in
     let h = c.loop-i.invariant in
     let e = c.in_ok-add_kept_by.ensures in
     record {
@@ -54,5 +70,5 @@ returns-clause-exact g c =
     let s = c.args.places.now in
     let ws = c.args.matrices.now in
     let ended : c.loop-i.i ≡ length ws = omega arith in
-    found_all s c.args.time ws c.loop-i.found.operations c.requires.isometries c.count-count.ensures.ordered
+    found_all s c.args.time ws c.loop-i.found.operations c.requires.isometries c.invariant.ensures.ordered
     (subst (λ (k : ℕ). (o : Operation) → IsMember o c.loop-i.found.operations ↔ IsFoundBelow s c.args.time ws k o) ended c.loop-i.invariant.members)

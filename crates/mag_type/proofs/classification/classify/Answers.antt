@@ -11,7 +11,7 @@ pub returns-clause-unprimed : goal.returns-clause-unprimed
 returns-clause-unprimed c =
     let os = c.args.list.now.operations in
     subst (IsNumberOf (IsUnprimed os)) (sym c.unprimed_count.ensures)
-    (unprimed_number c.ops.result.now os c.ops.ensures (increasing_distinct compare_of compare_total os c.count-form.ensures.ordered))
+    (unprimed_number c.ops.result.now os c.ops.ensures (increasing_distinct compare_of compare_total os c.invariant.ensures.ordered))
 
 -- a group without a further translation has one type
 pub returns-clause-only : goal.returns-clause-only

@@ -11,7 +11,7 @@ loop-op-preserved c =
     let os = c.args.list.now.operations in
     let ops = c.ops-op-items.result.now in
     let i = c.loop-op.op-index in
-    let distinct = increasing_distinct compare_of compare_total os c.count-form.ensures.ordered in
+    let distinct = increasing_distinct compare_of compare_total os c.invariant.ensures.ordered in
     let within : i < length ops = omega arith in
     record {
       fits = elim c.if-is_first_of_pair.branch [

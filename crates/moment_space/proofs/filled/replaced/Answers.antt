@@ -2,9 +2,9 @@ use Rattle.std.proofs.Common.{sym, subst, refl, inl, inr}
 use Rattle.crystal_spec.specs.declared.MomentKind.{MomentKind}
 use Rattle.crystal_spec.specs.Moments.{IsOfKind}
 use Rattle.crystal_spec.specs.Operations.{sign_factor}
-use Rattle.crystal.specs.Views.{site_of}
+use Rattle.crystal.specs.Views.{atom_of}
 use Rattle.positions.specs.Positions.{triple_of}
-use Rattle.moment_space.specs.Carried.{IsCarriedMoment}
+use Rattle.moment_space.specs.Replacements.{IsCarriedMoment}
 use Rattle.moment_space.proofs.Ranges.{moment-of_kind}
 use Rattle.moment_space.proofs.filled.replaced.Goals as goal
 
@@ -12,13 +12,13 @@ pub returns-in-Some-clause-value : goal.returns-in-Some-clause-value
 returns-in-Some-clause-value c =
     let found = subst (λ (k : MomentKind). IsCarriedMoment k c.args.list.now.n c.args.list.now.operations (triple_of c.args.from) c.args.m.now (triple_of c.atom-atom.result.now.place) c.in-Some.moment) c.kind.ensures c.in-Some.ensures.found in
     record {
-      site = site_of c.atom-atom.result.now;
-      is_site = c.atom-atom.ensures.value;
+      atom = atom_of c.atom-atom.result.now;
+      is_atom = c.atom-atom.ensures.value;
       replaced = record { same_species = refl; same_position = refl; moment = inl found };
     }
 
-pub returns-in-Some-clause-site : goal.returns-in-Some-clause-site
-returns-in-Some-clause-site c =
+pub returns-in-Some-clause-atom : goal.returns-in-Some-clause-atom
+returns-in-Some-clause-atom c =
     let kind = c.args.cell.now.kind in
     let found = subst (λ (k : MomentKind). IsCarriedMoment k c.args.list.now.n c.args.list.now.operations (triple_of c.args.from) c.args.m.now (triple_of c.atom-atom.result.now.place) c.in-Some.moment) c.kind.ensures c.in-Some.ensures.found in
     record {
@@ -30,7 +30,7 @@ returns-in-Some-clause-site c =
 
 pub returns-in-None-clause-value : goal.returns-in-None-clause-value
 returns-in-None-clause-value c = record {
-  site = site_of c.atom-atom.result.now;
-  is_site = c.atom-atom.ensures.value;
+  atom = atom_of c.atom-atom.result.now;
+  is_atom = c.atom-atom.ensures.value;
   replaced = record { same_species = refl; same_position = refl; moment = inr (c.in-None.ensures.absent, refl) };
 }

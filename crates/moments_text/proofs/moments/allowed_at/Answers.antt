@@ -15,21 +15,21 @@ projector-requires-clause-group c =
     let at = site_at_orbit c.args.cell.now c.args.prim.now.cell c.args.prim.now.back o.operations c.args.orbits.now o.are_orbits c.args.i room c.site.result.now c.site.ensures in
     subst (λ (n : ℕ). IsGroupModulo n c.site.result.now.operations)
     (sym (n_at_orbit c.args.cell.now c.args.prim.now.cell c.args.prim.now.back o.operations c.args.orbits.now o.are_orbits c.args.i room c.site.result.now c.site.ensures c.requires.below))
-    (group_site c.args.cell.now c.args.prim.now.cell c.args.prim.now.back o.operations c.site.result.now.operations c.args.i c.cell.result.now c.cell.ensures c.count-form.ensures.form c.index-index.ensures.form.niggli c.requires.primitive c.requires.same_cell o.all at c.requires.below)
+    (group_site c.args.cell.now c.args.prim.now.cell c.args.prim.now.back o.operations c.site.result.now.operations c.args.i c.cell.result.now c.cell.ensures c.invariant-2.ensures.form c.invariant.ensures.form.niggli c.requires.primitive c.requires.same_cell o.all at c.requires.below)
 
 pub projector-requires-clause-few : goal.projector-requires-clause-few
 projector-requires-clause-few c =
     let o = c.requires.orbits in
     let room : c.args.i < length c.args.orbits.now = subst (λ (k : ℕ). c.args.i < k) (sym o.of_each_atom) c.requires.below in
     let at = site_at_orbit c.args.cell.now c.args.prim.now.cell c.args.prim.now.back o.operations c.args.orbits.now o.are_orbits c.args.i room c.site.result.now c.site.ensures in
-    few_site c.args.cell.now c.args.prim.now.cell c.args.prim.now.back o.operations c.site.result.now.operations c.args.i c.cell.result.now c.cell.ensures c.count-form.ensures.form c.index-index.ensures.form.niggli c.requires.primitive c.requires.same_cell o.all at c.requires.below
+    few_site c.args.cell.now c.args.prim.now.cell c.args.prim.now.back o.operations c.site.result.now.operations c.args.i c.cell.result.now c.cell.ensures c.invariant-2.ensures.form c.invariant.ensures.form.niggli c.requires.primitive c.requires.same_cell o.all at c.requires.below
 
 pub projector-requires-clause-small : goal.projector-requires-clause-small
 projector-requires-clause-small c =
     let o = c.requires.orbits in
     let room : c.args.i < length c.args.orbits.now = subst (λ (k : ℕ). c.args.i < k) (sym o.of_each_atom) c.requires.below in
     let at = site_at_orbit c.args.cell.now c.args.prim.now.cell c.args.prim.now.back o.operations c.args.orbits.now o.are_orbits c.args.i room c.site.result.now c.site.ensures in
-    small_site c.args.cell.now c.args.prim.now.cell c.args.prim.now.back o.operations c.site.result.now.operations c.args.i c.cell.result.now c.cell.ensures c.count-form.ensures.form c.index-index.ensures.form.niggli c.requires.primitive c.requires.same_cell o.all at c.requires.below
+    small_site c.args.cell.now c.args.prim.now.cell c.args.prim.now.back o.operations c.site.result.now.operations c.args.i c.cell.result.now c.cell.ensures c.invariant-2.ensures.form c.invariant.ensures.form.niggli c.requires.primitive c.requires.same_cell o.all at c.requires.below
 
 pub returns : goal.returns
 returns c =

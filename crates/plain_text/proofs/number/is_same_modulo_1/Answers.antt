@@ -6,4 +6,4 @@ pub returns : goal.returns
 returns c =
     let f = c.args.f.now in
     let g = c.args.g.now in
-    ap (λ (m : ℕ). eqb (m % (f.den * g.den)) 0) (c.apart-apart.ensures ∙ rw (signed-mul f.negative f.num g.den, signed-mul g.negative g.num f.den) refl)
+    c.is_multiple_of.ensures ∙ ap (λ (m : ℕ). eqb (m % (f.den * g.den)) 0) (c.apart-apart.ensures ∙ rw (signed-mul f.negative f.num g.den, signed-mul g.negative g.num f.den) refl)

@@ -18,16 +18,16 @@ pub step_basis-steps-requires-clause-closed : goal.step_basis-steps-requires-cla
 step_basis-steps-requires-clause-closed c =
     let s = c.args.cell.now in
     let os = c.args.shifts.now.operations in
-    subst (λ (n : ℕ). IsClosed n os) (sym c.requires.n) (pure_closed s os c.requires.exact c.count-form.ensures.cell.some_cells)
+    subst (λ (n : ℕ). IsClosed n os) (sym c.requires.n) (pure_closed s os c.requires.exact c.invariant.ensures.cell.some_cells)
 
 pub step_basis-steps-requires-clause-few : goal.step_basis-steps-requires-clause-few
 step_basis-steps-requires-clause-few c =
-    let h = few_pure c.args.cell.now c.count-form.ensures.cell c.count-form.ensures.form.few c.args.shifts.now.operations c.requires.exact in
+    let h = few_pure c.args.cell.now c.invariant.ensures.cell c.invariant.ensures.form.few c.args.shifts.now.operations c.requires.exact in
     omega (arith, h)
 
 pub changed_metric-requires-clause-columns : goal.changed_metric-requires-clause-columns
 changed_metric-requires-clause-columns c =
-    let h = few_pure c.args.cell.now c.count-form.ensures.cell c.count-form.ensures.form.few c.args.shifts.now.operations c.requires.exact in
+    let h = few_pure c.args.cell.now c.invariant.ensures.cell c.invariant.ensures.form.few c.args.shifts.now.operations c.requires.exact in
     let e = c.step_basis-steps.ensures.count (λ o m. ((c.requires.exact.exact o).0 m).0) in
     entries_of_each c.step_basis-steps.result.index MOST_ATOMS c.step_basis-steps.result.fore (subst (λ (n : ℕ). n ≤ MOST_ATOMS) e h) c.step_basis-steps.ensures.fore_entries
 
@@ -38,13 +38,13 @@ reduce-reduced-requires-clause-positive c =
     let found = c.step_basis-steps.result in
     let steps = subst (λ (n : ℕ). IsSteps n (InLattice n os) found.index found.back found.fore) c.requires.n c.step_basis-steps.ensures.steps in
     let is : metric_of c.changed_metric.result ≡ metric_in found.fore s.metric = c.changed_metric.ensures ∙ ap (metric_in found.fore) (c.matrix.ensures ∙ c.metric.ensures) in
-    subst IsPositive (sym is) (step_metric_positive s c.count-form.ensures.cell os c.requires.exact found.index found.back found.fore steps c.step_basis-steps.ensures.determinant)
+    subst IsPositive (sym is) (step_metric_positive s c.invariant.ensures.cell os c.requires.exact found.index found.back found.fore steps c.step_basis-steps.ensures.determinant)
 
 pub reduce-reduced-requires-clause-small : goal.reduce-reduced-requires-clause-small
 reduce-reduced-requires-clause-small c =
     let s = c.args.cell.now in
     let found = c.step_basis-steps.result in
-    let h = few_pure s c.count-form.ensures.cell c.count-form.ensures.form.few c.args.shifts.now.operations c.requires.exact in
+    let h = few_pure s c.invariant.ensures.cell c.invariant.ensures.form.few c.args.shifts.now.operations c.requires.exact in
     let e = c.step_basis-steps.ensures.count (λ o m. ((c.requires.exact.exact o).0 m).0) in
     let columns = entries_of_each found.index MOST_ATOMS found.fore (subst (λ (n : ℕ). n ≤ MOST_ATOMS) e h) c.step_basis-steps.ensures.fore_entries in
     let is : metric_of c.changed_metric.result ≡ metric_in found.fore s.metric = c.changed_metric.ensures ∙ ap (metric_in found.fore) (c.matrix.ensures ∙ c.metric.ensures) in
@@ -53,14 +53,14 @@ reduce-reduced-requires-clause-small c =
 pub times-requires-clause-fits : goal.times-requires-clause-fits
 times-requires-clause-fits c =
     let found = c.step_basis-steps.result in
-    let h = few_pure c.args.cell.now c.count-form.ensures.cell c.count-form.ensures.form.few c.args.shifts.now.operations c.requires.exact in
+    let h = few_pure c.args.cell.now c.invariant.ensures.cell c.invariant.ensures.form.few c.args.shifts.now.operations c.requires.exact in
     let e = c.step_basis-steps.ensures.count (λ o m. ((c.requires.exact.exact o).0 m).0) in
     product_fits _ _ c.reduce-reduced.ensures.back_entries (entries_of_each found.index MOST_ATOMS found.back (subst (λ (n : ℕ). n ≤ MOST_ATOMS) e h) c.step_basis-steps.ensures.back_entries) tt
 
 pub times-requires-2-clause-fits : goal.times-requires-2-clause-fits
 times-requires-2-clause-fits c =
     let found = c.step_basis-steps.result in
-    let h = few_pure c.args.cell.now c.count-form.ensures.cell c.count-form.ensures.form.few c.args.shifts.now.operations c.requires.exact in
+    let h = few_pure c.args.cell.now c.invariant.ensures.cell c.invariant.ensures.form.few c.args.shifts.now.operations c.requires.exact in
     let e = c.step_basis-steps.ensures.count (λ o m. ((c.requires.exact.exact o).0 m).0) in
     product_fits _ _ (entries_of_each found.index MOST_ATOMS found.fore (subst (λ (n : ℕ). n ≤ MOST_ATOMS) e h) c.step_basis-steps.ensures.fore_entries) c.reduce-reduced.ensures.base_entries tt
 
@@ -73,7 +73,7 @@ returns c =
     let m = made.metric in
     let steps = subst (λ (n : ℕ). IsSteps n (InLattice n os) found.index found.back found.fore) c.requires.n c.step_basis-steps.ensures.steps in
     let is : metric_of c.changed_metric.result ≡ metric_in found.fore s.metric = c.changed_metric.ensures ∙ ap (metric_in found.fore) (c.matrix.ensures ∙ c.metric.ensures) in
-    let h = few_pure s c.count-form.ensures.cell c.count-form.ensures.form.few os c.requires.exact in
+    let h = few_pure s c.invariant.ensures.cell c.invariant.ensures.form.few os c.requires.exact in
     let e = c.step_basis-steps.ensures.count (λ o m. ((c.requires.exact.exact o).0 m).0) in
     let columns = entries_of_each found.index MOST_ATOMS found.fore (subst (λ (n : ℕ). n ≤ MOST_ATOMS) e h) c.step_basis-steps.ensures.fore_entries in
     let small = subst (EntriesAtMost (10 ^ 16)) (sym is) (step_metric_small found.fore s.metric columns c.requires.metric) in
@@ -88,4 +88,4 @@ returns c =
     }) in
     subst (λ (r : Matrix). IsReducedBasis s os found.index r c.times-2.result (metric_of m)) (sym c.times.ensures.value)
     (subst (λ (p : Matrix). IsReducedBasis s os found.index (product made.back found.back) p (metric_of m)) (sym c.times-2.ensures.value)
-    (reduced_basis s c.count-form.ensures.cell c.count-form.ensures.form.few os c.requires.exact found.index found.back found.fore steps (record { aa = m.aa; bb = m.bb; cc = m.cc; bc = m.bc; ac = m.ac; ab = m.ab }) made.base made.back reduction c.requires.metric))
+    (reduced_basis s c.invariant.ensures.cell c.invariant.ensures.form.few os c.requires.exact found.index found.back found.fore steps (record { aa = m.aa; bb = m.bb; cc = m.cc; bc = m.bc; ac = m.ac; ab = m.ab }) made.base made.back reduction c.requires.metric))

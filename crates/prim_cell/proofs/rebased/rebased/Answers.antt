@@ -16,7 +16,7 @@ pub add_atoms-requires-clause-names : goal.add_atoms-requires-clause-names
 add_atoms-requires-clause-names c = ap (λ (s : Structure). s.names) c.in_ok-add_names_of.ensures
 
 pub add_atoms-requires-clause-first : goal.add_atoms-requires-clause-first
-add_atoms-requires-clause-first c = ap (λ (s : Structure). s.sites) c.in_ok-add_names_of.ensures ∙ (has_started c.args.cell.now c.in_ok-made.made c.args.r.now c.in_ok-made.ensures).sites
+add_atoms-requires-clause-first c = ap (λ (s : Structure). s.atoms) c.in_ok-add_names_of.ensures ∙ (has_started c.args.cell.now c.in_ok-made.made c.args.r.now c.in_ok-made.ensures).atoms
 
 pub returns : goal.returns
 returns c = all_made c.args.cell.now c.in_ok-made.made c.add_names_of.new.self c.add_atoms.new.made c.args.r.now c.in_ok-made.ensures c.in_ok-add_names_of.ensures c.in_ok-add_atoms.ensures

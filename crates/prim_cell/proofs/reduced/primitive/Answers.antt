@@ -13,7 +13,7 @@ new-requires-2 c =
     let s = c.args.cell.now in
     let basis = c.reduced_basis-basis.result in
     let list = c.in_ok-shifts.shifts in
-    is_primitive_cell s c.in_ok-made.made c.count-form.ensures.cell c.requires.sizes.metric list basis.index basis.back basis.fore (metric_of basis.metric)
+    is_primitive_cell s c.in_ok-made.made c.invariant.ensures.cell c.requires.sizes.metric list basis.index basis.back basis.fore (metric_of basis.metric)
     (c.in_ok-shifts.ensures.n ∙ ap (λ (t : Structure). t.n) c.in_ok-places.ensures)
     (subst (λ (t : Structure). ListsPureTranslations t list.operations) c.in_ok-places.ensures c.in_ok-shifts.ensures.exact)
     c.reduced_basis-basis.ensures c.in_ok-made.ensures
@@ -30,5 +30,5 @@ pub returns-clause-numbered : goal.returns-clause-numbered
 returns-clause-numbered c =
     let s = c.args.cell.now in
     let basis = c.reduced_basis-basis.result in
-    subst (λ (p : PrimitiveCell). AreByFirstUse 0 (length s.names) s.sites → AreByFirstUse 0 (length p.cell.names) p.cell.sites) (sym c.new-2.ensures)
-    (stays_numbered s basis.back c.count-form.ensures.cell.some_cells c.reduced_basis-basis.ensures.primitive.same c.in_ok-made.made c.in_ok-made.ensures)
+    subst (λ (p : PrimitiveCell). AreByFirstUse 0 (length s.names) s.atoms → AreByFirstUse 0 (length p.cell.names) p.cell.atoms) (sym c.new-2.ensures)
+    (stays_numbered s basis.back c.invariant.ensures.cell.some_cells c.reduced_basis-basis.ensures.primitive.same c.in_ok-made.made c.in_ok-made.ensures)

@@ -22,8 +22,8 @@ loop-op-preserved c o =
     let p = triple_of c.args.place in
     any_more c.ops-ops.result.now c.loop-op.op-index c.op-item.result (λ (x : Op). (o ≡ operation_of x) × (image_within c.n-n.result p o ≡ p)) c.loop-op-test.true c.op-item.is (c.in_ok-add_fixing.ensures o) (c.loop-op.invariant o)
 
-pub sorted-site-requires : goal.sorted-site-requires
-sorted-site-requires c =
+pub sorted-requires : goal.sorted-requires
+sorted-requires c =
     let p = triple_of c.args.place in
     let os = c.args.list.now.operations in
     let ops = c.ops-ops.result.now in
@@ -31,7 +31,7 @@ sorted-site-requires c =
     record {
       below_n = λ o m.
           let any = (only_left (any_all ops c.loop-op.op-index (λ (x : Op). (o ≡ operation_of x) × (image_within c.n-n.result p o ≡ p)) ended (c.loop-op.invariant o))).0 m in
-          subst (λ (n : ℕ). IsWithinCell n o.translation) (sym c.n-n.ensures) (c.count-count.ensures.within_cell o ((kept_of_list ops os o (image_within c.n-n.result p o ≡ p) c.ops-ops.ensures).0 any).0);
+          subst (λ (n : ℕ). IsWithinCell n o.translation) (sym c.n-n.ensures) (c.invariant.ensures.within_cell o ((kept_of_list ops os o (image_within c.n-n.result p o ≡ p) c.ops-ops.ensures).0 any).0);
     }
 
 pub returns-clause-exact : goal.returns-clause-exact
@@ -41,5 +41,5 @@ returns-clause-exact c o =
     let ops = c.ops-ops.result.now in
     let ended : c.loop-op.op-index ≡ length ops = omega arith in
     let any = only_left (any_all ops c.loop-op.op-index (λ (x : Op). (o ≡ operation_of x) × (image_within c.n-n.result p o ≡ p)) ended (c.loop-op.invariant o)) in
-    subst (λ (n : ℕ). IsMember o c.sorted-site.result.operations ↔ (IsMember o os × (image_within n p o ≡ p))) c.n-n.ensures
-    (either_way (c.sorted-site.ensures.exact o) (either_way any (kept_of_list ops os o (image_within c.n-n.result p o ≡ p) c.ops-ops.ensures)))
+    subst (λ (n : ℕ). IsMember o c.in_ok-site.site.operations ↔ (IsMember o os × (image_within n p o ≡ p))) c.n-n.ensures
+    (either_way (c.in_ok-site.ensures.exact o) (either_way any (kept_of_list ops os o (image_within c.n-n.result p o ≡ p) c.ops-ops.ensures)))

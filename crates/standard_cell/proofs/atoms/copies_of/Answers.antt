@@ -5,9 +5,9 @@ use Rattle.matrix3.specs.Matrices.{EachEntry}
 use Rattle.matrix3.proofs.FitsBySize.{image_fits}
 use Rattle.crystal_spec.specs.Matrices.{Triple, Matrix, image, adjugate}
 use Rattle.crystal_spec.specs.Moments.{turn_matrix}
-use Rattle.crystal_spec.specs.Crystals.{Site}
+use Rattle.crystal_spec.specs.Crystals.{Atom}
 use Rattle.crystal_spec.specs.Operations.{IsWithinCell}
-use Rattle.crystal.specs.Views.{site_of}
+use Rattle.crystal.specs.Views.{atom_of}
 use Rattle.positions.specs.Positions.{triple_of}
 use Rattle.standard_cell.specs.Frames.{goal_of, point_at, Meets, IsStart}
 use Rattle.standard_cell.proofs.CopyLemmas.{met_whole}
@@ -37,14 +37,14 @@ returns-clause-copies c =
     let f = c.args.frame.now in
     let s = c.args.cell.now in
     let u = c.args.units.now in
-    let a = site_of c.atom-atom.result.now in
+    let a = atom_of c.atom-atom.result.now in
     let source = c.source.ensures ∙ ap (image (adjugate f.turn)) c.goal-goal.ensures.value in
     let start = start_of f c.requires.frame a.position c.remainders.result c.source.result c.step.result c.step.ensures.value source c.remainders.ensures.x c.remainders.ensures.y c.remainders.ensures.z in
     record {
       start = start.in_cell;
       goal = c.goal-goal.ensures.size;
       positive = c.requires.units.divisor_is.positive;
-      divides = λ t m. met_whole s f c.requires.frame c.requires.n u.divisor s.sites c.requires.units.divisor_is a (member_at s.sites c.args.i a c.atom-atom.ensures.value) (point_at f c.remainders.result t) (subst (λ (w : Triple). Meets f w (point_at f c.remainders.result t)) c.goal-goal.ensures.value m);
+      divides = λ t m. met_whole s f c.requires.frame c.requires.n u.divisor s.atoms c.requires.units.divisor_is a (member_at s.atoms c.args.i a c.atom-atom.ensures.value) (point_at f c.remainders.result t) (subst (λ (w : Triple). Meets f w (point_at f c.remainders.result t)) c.goal-goal.ensures.value m);
       few = units_few s f c.requires.frame c.requires.n u c.requires.units c.requires.few;
     }
 
@@ -53,7 +53,7 @@ returns-clause-of_atom c b e =
     let f = c.args.frame.now in
     let s = c.args.cell.now in
     let u = c.args.units.now in
-    let a = site_of c.atom-atom.result.now in
+    let a = atom_of c.atom-atom.result.now in
     let source = c.source.ensures ∙ ap (image (adjugate f.turn)) c.goal-goal.ensures.value in
     let start : IsStart f a.position c.remainders.result = start_of f c.requires.frame a.position c.remainders.result c.source.result c.step.result c.step.ensures.value source c.remainders.ensures.x c.remainders.ensures.y c.remainders.ensures.z in
     let same : a ≡ b = cc (c.atom-atom.ensures.value, e) in
@@ -62,8 +62,8 @@ returns-clause-of_atom c b e =
       same_n = c.requires.n;
       above = units_natural s f c.requires.frame c.requires.n u c.requires.units;
       parts = units_parts s f c.requires.frame c.requires.n u c.requires.units;
-      goal = c.goal-goal.ensures.value ∙ ap (λ (x : Site). goal_of f x.position) same;
-      is_start = subst (λ (x : Site). IsStart f x.position c.remainders.result) same start;
-      species = ap (λ (x : Site). x.species) same;
-      moment = moment ∙ ap (λ (x : Site). image (turn_matrix s.kind (adjugate f.turn)) x.moment) same;
+      goal = c.goal-goal.ensures.value ∙ ap (λ (x : Atom). goal_of f x.position) same;
+      is_start = subst (λ (x : Atom). IsStart f x.position c.remainders.result) same start;
+      species = ap (λ (x : Atom). x.species) same;
+      moment = moment ∙ ap (λ (x : Atom). image (turn_matrix s.kind (adjugate f.turn)) x.moment) same;
     }

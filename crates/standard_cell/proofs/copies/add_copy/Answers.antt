@@ -2,7 +2,7 @@ use Rattle.std.proofs.Common.{◌≡◌, ◌^◌, ◌*◌, ℤ, pos, true, ◌*�
 use Rattle.ring.specs.Size.{AtMost}
 use Rattle.matrix3.specs.Matrices.{EachCoordinate}
 use Rattle.crystal_spec.specs.Matrices.{Triple, multiple, sum_of}
-use Rattle.crystal.specs.Views.{site_of}
+use Rattle.crystal.specs.Views.{atom_of}
 use Rattle.positions.specs.Positions.{triple_of}
 use Rattle.match_spec.specs.Points.{point, IsInCell, IsWhole}
 use Rattle.matrix3.proofs.FitsBySize.{coordinates_grown}
@@ -58,8 +58,8 @@ returns-in_ok-push c =
     let t = triple_of c.args.t in
     let is : c.plus-place.result ≡ point_at f s.start t = c.plus-place.ensures ∙ ap (sum_of s.start) (c.multiple.ensures ∙ ap₂ multiple c.step.ensures.value c.column.ensures.value) in
     let met : Meets f s.goal (point_at f s.start t) = subst (λ (v : Triple). Meets f s.goal v) is (c.is_met.ensures.0 c.if-is_met.true) in
-    let copy : IsCopy f s t (site_of c.atom_at.result) = record { meets = met; position = c.atom_at.ensures.position ∙ is; species = c.atom_at.ensures.species; moment = c.atom_at.ensures.moment } in
-    one_added (IsCopy f s) t c.args.made.now.items c.push.new.self.items c.atom_at.result c.in_ok-push.ensures.items copy (λ d h. copy_once f s t (site_of c.atom_at.result) d c.requires.copies.positive copy h)
+    let copy : IsCopy f s t (atom_of c.atom_at.result) = record { meets = met; position = c.atom_at.ensures.position ∙ is; species = c.atom_at.ensures.species; moment = c.atom_at.ensures.moment } in
+    one_added (IsCopy f s) t c.args.made.now.items c.push.new.self.items c.atom_at.result c.in_ok-push.ensures.items copy (λ d h. copy_once f s t (atom_of c.atom_at.result) d c.requires.copies.positive copy h)
 
 pub returns-else-is_met : goal.returns-else-is_met
 returns-else-is_met c =

@@ -1,4 +1,4 @@
-use Rattle.std.proofs.Common.{◌≡◌, subst, sym, ap, ◌∙◌, lit≤, ◌*◌, ◌+◌, ◌^◌}
+use Rattle.std.proofs.Common.{◌≡◌, subst, sym, ap, ◌∙◌, ◌*◌, ◌+◌, ◌^◌}
 use Rattle.crystal_spec.specs.Matrices.{Matrix, product, transposed}
 use Rattle.matrix3.specs.Bounds.{EntriesAtMost}
 use Rattle.matrix3.proofs.FitsBySize.{product_fits, product_size, transposed_size}

@@ -13,7 +13,7 @@ use Rattle.standard_cell.proofs.limits.has_room.Goals as goal
 pub returns-then-not-is_few : goal.returns-then-not-is_few
 returns-then-not-is_few c =
     let f = c.args.frame.now in
-    ((λ t. absurd (cc t)), (λ room. absurd (let yes : c.is_few.result ≡ true = c.is_few.ensures.1 (subst (λ (h : ℕ). h * length c.args.cell.now.sites ≤ MOST_ATOMS) (sym (index_size f.index (determinant f.turn) c.requires.frame.index)) room.atoms) in cc (yes, c.if-not-is_few.true))))
+    ((λ t. absurd (cc t)), (λ room. absurd (let yes : c.is_few.result ≡ true = c.is_few.ensures.1 (subst (λ (h : ℕ). h * length c.args.cell.now.atoms ≤ MOST_ATOMS) (sym (index_size f.index (determinant f.turn) c.requires.frame.index)) room.atoms) in cc (yes, c.if-not-is_few.true))))
 
 pub returns-then-not-is_part : goal.returns-then-not-is_part
 returns-then-not-is_part c = ((λ t. absurd (cc t)), (λ room. absurd (let yes : c.is_part.result ≡ true = c.is_part.ensures.1 room.n in cc (yes, c.if-not-is_part.true))))
@@ -35,7 +35,7 @@ returns c =
     let s = c.args.cell.now in
     let e : c.turn_matrix.result ≡ turn_matrix s.kind (adjugate f.turn) = c.turn_matrix.ensures ∙ (λ j. turn_matrix (c.kind.ensures j) (c.requires.frame.back j)) in (
       (λ t. record {
-        atoms = subst (λ (h : ℕ). h * length s.sites ≤ MOST_ATOMS) (index_size f.index (determinant f.turn) c.requires.frame.index) (c.is_few.ensures.0 c.if-not-is_few.false);
+        atoms = subst (λ (h : ℕ). h * length s.atoms ≤ MOST_ATOMS) (index_size f.index (determinant f.turn) c.requires.frame.index) (c.is_few.ensures.0 c.if-not-is_few.false);
         n = c.is_part.ensures.0 c.if-not-is_part.false;
         k = c.is_natural_part.ensures.0 c.if-not-is_natural_part.false;
         metric = c.is_metric.ensures.0 c.if-not-is_metric.false;

@@ -5,7 +5,7 @@ use Rattle.standard_cell.proofs.limits.moment_parts.Goals as goal
 
 pub overflow_mul-result : goal.overflow_mul-result
 overflow_mul-result c =
-    let k : c.k.result ≤ 10 ^ 6 = subst (λ (n : ℕ). n ≤ 10 ^ 6) (sym c.k.ensures) c.count-form.ensures.form.k_at_most in
+    let k : c.k.result ≤ 10 ^ 6 = subst (λ (n : ℕ). n ≤ 10 ^ 6) (sym c.k.ensures) c.invariant.ensures.form.k_at_most in
     let both : c.args.index * c.k.result ≤ 1728 * 10 ^ 6 = mul-le-mul c.requires k in
     record { fits = omega (arith, both) }
 

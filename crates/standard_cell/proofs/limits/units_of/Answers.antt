@@ -21,10 +21,10 @@ unwrap-requires c =
 pub changed_metric-requires-clause-symmetric : goal.changed_metric-requires-clause-symmetric
 changed_metric-requires-clause-symmetric c =
     let is = c.matrix.ensures ∙ c.metric.ensures in
-    subst (λ (m : Matrix). transposed m ≡ m) (sym is) c.count-form.ensures.cell.symmetric
+    subst (λ (m : Matrix). transposed m ≡ m) (sym is) c.invariant.ensures.cell.symmetric
 
 pub changed_metric-requires-clause-metric : goal.changed_metric-requires-clause-metric
-changed_metric-requires-clause-metric c = subst (EntriesAtMost (10 ^ 16)) (sym (c.matrix.ensures ∙ c.metric.ensures)) c.count-form.ensures.form.entries
+changed_metric-requires-clause-metric c = subst (EntriesAtMost (10 ^ 16)) (sym (c.matrix.ensures ∙ c.metric.ensures)) c.invariant.ensures.form.entries
 
 pub returns : goal.returns
 returns c =

@@ -21,14 +21,14 @@ some n h = omega (arith, ints)
 pub returns-in_default-clause-too_wide : goal.returns-in_default-clause-too_wide
 returns-in_default-clause-too_wide c s st fits =
     let cell = c.cell-cell.result.now in
-    let form = c.count-form.ensures in
+    let form = c.invariant.ensures in
     too_fine cell s c.args.map.now.turn c.args.map.now.origin (subst (λ (x : Structure). IsStandard x c.args.map.now.turn (point_of (vector_map fraction_of c.args.map.now.origin)) s) (sym c.cell-cell.ensures) st) fits
     (above (determinant c.args.map.now.turn) c.requires.map.at_least) form.cell.some_cells form.form.n_at_most form.cell.first form.cell.of_cell (of_none c.common_origin.result c.common_origin.ensures.absent c.in_default.is)
 
 pub frame_of-frame-requires : goal.frame_of-frame-requires
 frame_of-frame-requires c = record {
-  n_at_least = subst (λ (n : ℕ). 1 ≤ n) (sym c.n.ensures) c.count-form.ensures.form.n_at_least;
-  n_at_most = subst (λ (n : ℕ). n ≤ 10 ^ 6) (sym c.n.ensures) c.count-form.ensures.form.n_at_most;
+  n_at_least = subst (λ (n : ℕ). 1 ≤ n) (sym c.n.ensures) c.invariant.ensures.form.n_at_least;
+  n_at_most = subst (λ (n : ℕ). n ≤ 10 ^ 6) (sym c.n.ensures) c.invariant.ensures.form.n_at_most;
   turn = c.requires.map.entries;
   at_least = c.requires.map.at_least;
   at_most = c.requires.map.at_most;
@@ -53,7 +53,7 @@ returns-clause-same c =
     let cell = c.cell-cell.result.now in
     let q = c.args.map.now.turn in
     let f = c.args.map.now.origin in
-    let form = c.count-form.ensures in
+    let form = c.invariant.ensures in
     ok_some_then c.cell_in_frame.result (λ made st. subst (λ (x : Structure). SameAt made x q (point_of (vector_map fraction_of f))) c.cell-cell.ensures
     (same_at cell made q (point_of (vector_map fraction_of f))
     (standard_moved cell made q f c.in-Some.origin c.frame_of-frame.result c.in-Some.ensures.found c.frame_of-frame.ensures.turn c.frame_of-frame.ensures.shift c.frame_of-frame.ensures.parts st)

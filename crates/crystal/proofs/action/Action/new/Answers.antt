@@ -13,7 +13,7 @@ unit_of d (inr e) = subst IsUnit (sym e) minus_one
 pub inverse_unit-requires-clause-unit_determinant : goal.inverse_unit-requires-clause-unit_determinant
 inverse_unit-requires-clause-unit_determinant c =
     let d = determinant c.args.w.now in
-    unit_of d (unit_cases d (determinant-isometry c.args.cell.now.metric c.args.w.now c.count-form.ensures.form.positive c.requires.isometry))
+    unit_of d (unit_cases d (determinant-isometry c.args.cell.now.metric c.args.w.now c.invariant.ensures.form.positive c.requires.isometry))
 
 pub inverse_unit-requires-clause-determinant_fits : goal.inverse_unit-requires-clause-determinant_fits
 inverse_unit-requires-clause-determinant_fits c = determinant_fits c.args.w.now c.requires.map tt tt
@@ -22,7 +22,7 @@ pub inverse_unit-requires-clause-adjugate_fits : goal.inverse_unit-requires-clau
 inverse_unit-requires-clause-adjugate_fits c = adjugate_fits c.args.w.now c.requires.map tt
 
 pub moment_matrix-requires-clause-isometry : goal.moment_matrix-requires-clause-isometry
-moment_matrix-requires-clause-isometry c = determinant-isometry c.args.cell.now.metric c.args.w.now c.count-form.ensures.form.positive c.requires.isometry
+moment_matrix-requires-clause-isometry c = determinant-isometry c.args.cell.now.metric c.args.w.now c.invariant.ensures.form.positive c.requires.isometry
 
 pub moment_matrix-requires-2-clause-isometry : goal.moment_matrix-requires-2-clause-isometry
-moment_matrix-requires-2-clause-isometry c = determinant-isometry c.args.cell.now.metric c.args.w.now c.count-form.ensures.form.positive c.requires.isometry
+moment_matrix-requires-2-clause-isometry c = determinant-isometry c.args.cell.now.metric c.args.w.now c.invariant.ensures.form.positive c.requires.isometry

@@ -9,7 +9,7 @@ pub add_name-requires-clause-new : goal.add_name-requires-clause-new
 add_name-requires-clause-new c m =
     let names = c.args.cell.now.names in
     let there = subst (λ (l : List (List ℕ)). IsMember c.copied.result l) (ap (λ (s : Structure). s.names) c.loop-species.invariant) m in
-    not_before names c.loop-species.species c.name.result.now c.count-form.ensures.form.names_differ c.name.ensures (subst (λ (x : List ℕ). IsMember x (take c.loop-species.species names)) c.copied.ensures there)
+    not_before names c.loop-species.species c.name.result.now c.invariant.ensures.form.names_differ c.name.ensures (subst (λ (x : List ℕ). IsMember x (take c.loop-species.species names)) c.copied.ensures there)
 
 pub loop-species-preserved : goal.loop-species-preserved
 loop-species-preserved c =

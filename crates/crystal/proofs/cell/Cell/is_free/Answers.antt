@@ -5,6 +5,6 @@ use Rattle.crystal.proofs.cell.Cell.is_free.Goals as goal
 
 pub returns-in-Some : goal.returns-in-Some
 returns-in-Some c =
-    let sites = c.args.self.now.sites in
+    let atoms = c.args.self.now.atoms in
     let there = c.in-Some.ensures.found in
-    ((λ t. absurd (cc t)), (λ none. absurd (none_member (triple_of c.args.place) sites there.site none (member_at sites _ there.site there.numbered) there.here)))
+    ((λ t. absurd (cc t)), (λ none. absurd (none_member (triple_of c.args.place) atoms there.atom none (member_at atoms _ there.atom there.numbered) there.here)))

@@ -7,7 +7,7 @@ use Rattle.crystal_spec.specs.Crystals.{Structure, Keeps, KeepsMetric}
 use Rattle.crystal_spec.specs.Operations.{sign_factor}
 use Rattle.crystal_spec.proofs.Isometries.{sign_squared}
 use Rattle.positions.specs.Positions.{triple_of}
-use Rattle.crystal.specs.Carrying.{HaveImages}
+use Rattle.crystal.specs.Images.{HaveImages}
 use Rattle.crystal.proofs.ImageLemmas.{keeps_exactly}
 use Rattle.crystal.proofs.places.Places.are_kept_by.Goals as goal
 
@@ -20,7 +20,7 @@ returns c =
     let kept = subst (λ (s : Structure). KeepsMetric s.metric w) (sym c.self.view_is) c.requires.isometry in
     let kind = c.requires.kind ∙ ap (λ (s : Structure). s.kind) (sym c.self.view_is) in
     let moments : c.moments.result.now ≡ moment_matrix cell.kind w sign = c.moments.ensures.value ∙ ap (λ (k : MomentKind). moment_matrix k w sign) kind in
-    let images = subst (λ (l : Matrix). IsTrue c.have_images.result ↔ HaveImages cell w t l cell.sites) moments c.have_images.ensures in
+    let images = subst (λ (l : Matrix). IsTrue c.have_images.result ↔ HaveImages cell w t l cell.atoms) moments c.have_images.ensures in
     record {
-      exact = subst (λ (s : Structure). IsTrue c.have_images.result ↔ Keeps s w t sign) c.self.view_is (keeps_exactly cell w t sign c.count-form.ensures.form (sign_squared c.args.sign) kept images);
+      exact = subst (λ (s : Structure). IsTrue c.have_images.result ↔ Keeps s w t sign) c.self.view_is (keeps_exactly cell w t sign c.invariant.ensures.form (sign_squared c.args.sign) kept images);
     }

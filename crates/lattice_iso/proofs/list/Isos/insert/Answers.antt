@@ -3,7 +3,7 @@ use Rattle.lists.specs.Increasing.{IsIncreasing, inserted}
 use Rattle.lists.proofs.Increasing.{IsIncreasing-inserted}
 use Rattle.crystal_spec.specs.Matrices.{Matrix}
 use Rattle.lattice_iso.specs.Isometries.{matrix_order}
-use Rattle.lattice_iso.proofs.Places.{matrix_order_total, matrix_inserted_member}
+use Rattle.lattice_iso.proofs.MatrixPlaces.{matrix_order_total, matrix_inserted_member}
 use Rattle.lattice_iso.proofs.list.Isos.insert.Goals as goal
 
 -- what was put in its place

@@ -4,7 +4,7 @@ use Rattle.crystal_spec.specs.Operations.{compare_of, IsWithinCell}
 use Rattle.op_group.specs.Views.{operation_of}
 use Rattle.positions.specs.Positions.{triple_of}
 use Rattle.op_group.specs.Lists.{OperationList, IsOperationList}
-use Rattle.op_group.proofs.Places.{operation_list_inserted, operation_inserted_member}
+use Rattle.op_group.proofs.OperationPlaces.{operation_list_inserted, operation_inserted_member}
 use Rattle.op_group.proofs.list.OpList.insert.Goals as goal
 
 -- what was put in its place

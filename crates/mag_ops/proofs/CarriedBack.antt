@@ -1,12 +1,13 @@
 -- What operations of a primitive cell give in the cell that it was made of.
 --
--- R takes coordinates in the cell to those in the primitive cell, and index · P undoes it but for the index. So R t = v
--- exactly where index · P takes v to index · t, and a matrix W with V R = R W has such columns. Of one operation (V, v, sign)
+-- Q takes coordinates in the cell to those in the primitive cell, and index · P undoes it but for the index. So Q t = v
+-- exactly where index · P takes v to index · t, and a matrix W with V Q = Q W has such columns. Of one operation (V, v, sign)
 -- the translation parts are those of one t and of the pure translations, modulo n. The numbers on the way are bounded: V is
 -- an isometry of a reduced metric tensor, with entries -1, 0 and 1, and a quotient is no larger than what is divided.
 use Rattle.std.proofs.Common.{◌≡◌, refl, sym, ap, subst, ◌∙◌, ◌⊎◌, inl, inr, ℕ, ◌*◌, ◌≤◌, ℤ, pos, ◌*ℤ◌, ◌<ℤ◌, ◌≤ℤ◌, unsigned_abs, List, [], ◌∷◌, ◌++◌, map, take, length, Option, Some, None, IfSome, Result, Ok, Err, mul-le-mul, arith}
 use Rattle.std.specs.Prelude.{◌↔◌, IfNone, OnOk}
 use Rattle.std.proofs.lemmas.Int.{ints, unsigned_abs-mul}
+use Rattle.std.specs.List.Sorted.{IsPermutation}
 use Rattle.std.proofs.lemmas.List.{map_push}
 use Rattle.ring.specs.Ring.{var, ◌:*◌}
 use Rattle.ring.specs.Size.{AtMost}
@@ -15,14 +16,16 @@ use Rattle.lists.specs.Increasing.{IsMember}
 use Rattle.lists.specs.Any.{AnyOf}
 use Rattle.lists.proofs.Any.{any_all, only_left, any_mapped}
 use Rattle.lists.proofs.Members.{IsMember-pushed}
+use Rattle.lists.proofs.Sorting.{members-permuted}
 use Rattle.crystal_spec.specs.Matrices.{Triple, Matrix, product, image, determinant, adjugate, identity, transposed, multiple, sum_of}
 use Rattle.crystal_spec.specs.Crystals.{Structure, KeepsMetric}
+use Rattle.crystal_spec.specs.declared.Sign.{Sign}
 use Rattle.crystal_spec.specs.Operations.{Operation, IsWithinCell, IsSymmetryOperation, ListsAll, ListsAllSame}
 use Rattle.crystal_spec.proofs.Identities.{by_integers}
 use Rattle.lattice_spec.specs.Niggli.{IsNiggli}
 use Rattle.matrix3.specs.Bounds.{EntriesAtMost, CoordinatesAtMost}
 use Rattle.lattice_iso.proofs.ByColumns.{entries_of_short}
-use Rattle.positions.specs.Positions.{modulo}
+use Rattle.positions.specs.Positions.{modulo, triple_of}
 use Rattle.basis_spec.specs.Metrics.{matrix_multiple}
 use Rattle.basis_spec.specs.Bases.{IsBack}
 use Rattle.basis_spec.specs.StepBases.{InLattice}
@@ -60,12 +63,12 @@ pub none_of : {A : Type 0} {P : Type 0} (r : Option A) → P → IfNone r P
 none_of (Some v) h = tt
 none_of None h = h
 
--- ---- columns: R t = v exactly where index · P takes v to index · t
+-- ---- columns: Q t = v exactly where index · P takes v to index · t
 
 at_least : (d : ℤ) → pos 1 ≤ℤ d → pos 0 <ℤ d
 at_least d h = omega (arith, ints)
 
--- a matrix whose product with R is the determinant of R times the identity is the adjugate
+-- a matrix whose product with Q is the determinant of Q times the identity is the adjugate
 adjugate_is : (fore r : Matrix) (d : ℤ) → d ≡ determinant r → pos 1 ≤ℤ determinant r → product fore r ≡ matrix_multiple d identity → fore ≡ adjugate r
 adjugate_is fore r d d_is up inverse =
     matrix_multiple_cancel (determinant r) fore (adjugate r) (at_least (determinant r) up)
@@ -87,7 +90,7 @@ module _ (p : PrimitiveCell) (form : IsPrimitiveCell p) where
   pub index_at_least : 1 ≤ p.index
   index_at_least = omega (arith, ints, index_above)
 
-  -- a column whose multiple index · P gives is one that R takes there
+  -- a column whose multiple index · P gives is one that Q takes there
   pub column_found : (v t : Triple) → image p.fore v ≡ multiple (pos p.index) t → image p.back t ≡ v
   column_found v t e =
       multiple_cancel (pos p.index) (image p.back t) v index_above
@@ -127,7 +130,7 @@ not_zero k d e h z = omega (arith, ints, sym e ∙ z)
 
 -- ---- matrices by their columns
 
--- the columns of R W are those that R makes of the columns of W
+-- the columns of Q W are those that Q makes of the columns of W
 pub column1_of : (m r w : Matrix) → m ≡ product r w → image r (column1 w) ≡ column1 m
 column1_of m r w e = ap column1 (columns_of_product r (column1 w) (column2 w) (column3 w) ∙ sym e)
 
@@ -139,7 +142,7 @@ column2_of m r w e = ap column2 (columns_of_product r (column1 w) (column2 w) (c
 pub column3_of : (m r w : Matrix) → m ≡ product r w → image r (column3 w) ≡ column3 m
 column3_of m r w e = ap column3 (columns_of_product r (column1 w) (column2 w) (column3 w) ∙ sym e)
 
--- R is cancelled on the left
+-- Q is cancelled on the left
 product_cancel : (r v w : Matrix) → pos 0 <ℤ determinant r → product r v ≡ product r w → v ≡ w
 product_cancel r v w up e = same_images v w (λ t. image_cancel r (image v t) (image w t) up (sym (image-product r v t) ∙ ap (λ (m : Matrix). image m t) e ∙ image-product r w t))
 
@@ -149,7 +152,7 @@ module _ (n : ℕ) (p : PrimitiveCell) (form : IsPrimitiveCell p) (n_is : n ≡ 
   lattice : IsBack n (InLattice n p.shifts.operations) p.back
   lattice = subst (λ (m : ℕ). IsBack m (InLattice m p.shifts.operations) p.back) (sym n_is) form.lattice
 
-  -- Of an operation v with V R = R W and R w0 = v0 exactly those of the matrix W, of the sign of v and of the translation
+  -- Of an operation v with V Q = Q W and Q w0 = v0 exactly those of the matrix W, of the sign of v and of the translation
   -- parts w0 + t, t a pure translation, are carried from it.
   pub translated_exactly : (v : Operation) (w : Matrix) (start : Triple) → IsWithinCell n v.translation → product v.matrix p.back ≡ product p.back w → image p.back start ≡ v.translation →
       (o : Operation) → IsTranslated n w start v.sign p.shifts.operations o ↔ IsCarriedFrom n p.back v o
@@ -178,7 +181,7 @@ module _ (n : ℕ) (p : PrimitiveCell) (form : IsPrimitiveCell p) (n_is : n ≡ 
             holds = λ i. record { matrix = matrix i; translation = m.is i; sign = h.same_sign i };
           }
 
-  -- nothing is carried from an operation where R takes no triple to its translation part
+  -- nothing is carried from an operation where Q takes no triple to its translation part
   pub none_started : (v o : Operation) → ((t : Triple) → image p.back t ≡ v.translation → ⊥) → IsCarriedFrom n p.back v o → ⊥
   none_started v o none h =
       let start = starts n p.shifts.operations p.back some lattice v.translation o.translation h.shifted in
@@ -186,9 +189,36 @@ module _ (n : ℕ) (p : PrimitiveCell) (form : IsPrimitiveCell p) (n_is : n ≡ 
 
 -- ---- lists
 
--- a member of a list of operations with one more is that or an old one
-pub operation_pushed : (xs : List Op) (x : Op) (o : Operation) → IsMember o (map operation_of (xs ++ x ∷ [])) ↔ ((o ≡ operation_of x) ⊎ IsMember o (map operation_of xs))
-operation_pushed xs x o = subst (λ (os : List Operation). IsMember o os ↔ ((o ≡ operation_of x) ⊎ IsMember o (map operation_of xs))) (sym (map_push operation_of xs x)) (IsMember-pushed (map operation_of xs) (operation_of x) o)
+-- a value of a list with one more element is that of the element or an old one
+pub value_pushed : {A X : Type 0} (f : A → X) (xs : List A) (x : A) (z : X) → IsMember z (map f (xs ++ x ∷ [])) ↔ ((z ≡ f x) ⊎ IsMember z (map f xs))
+value_pushed {A} {X} f xs x z = subst (λ (zs : List X). IsMember z zs ↔ ((z ≡ f x) ⊎ IsMember z (map f xs))) (sym (map_push f xs x)) (IsMember-pushed (map f xs) (f x) z)
+
+-- after the last pure translation of the list: exactly the sums with those of the list, in whatever order they are put
+pub sums_of_all : (n : ℕ) (start : Triple) (ops : List Op) (ps : List Operation) (xs ys : List (List ℕ)) → map operation_of ops ≡ ps → IsPermutation xs ys → (i : ℕ) → i ≡ length ops →
+    ((t : Triple) → IsMember t (map triple_of xs) ↔ (AnyOf (take i ops) (λ x. t ≡ modulo n (sum_of start (triple_of x.shift))) ⊎ ⊥)) →
+    (t : Triple) → IsMember t (map triple_of ys) ↔ AnyOf ps (λ p. t ≡ modulo n (sum_of start p.translation))
+sums_of_all n start ops ps xs ys same moved i ended h t =
+    let all = only_left (any_all ops i (λ x. t ≡ modulo n (sum_of start (triple_of x.shift))) ended (h t)) in
+    let mapped = any_mapped operation_of ops (λ p. t ≡ modulo n (sum_of start p.translation)) in
+    let sorted = members-permuted triple_of xs ys moved t in
+    subst (λ (l : List Operation). IsMember t (map triple_of ys) ↔ AnyOf l (λ p. t ≡ modulo n (sum_of start p.translation))) same
+    ((λ m. mapped.0 (all.0 (sorted.0 m))), (λ a. sorted.1 (all.1 (mapped.1 a))))
+
+-- the operations of one matrix and sign with the translation parts of a list, where these are the sums with those of another
+pub translated_by : (n : ℕ) (w : Matrix) (start : Triple) (sign : Sign) (ts : List Triple) (ps : List Operation) →
+    ((t : Triple) → IsMember t ts ↔ AnyOf ps (λ p. t ≡ modulo n (sum_of start p.translation))) →
+    (o : Operation) → AnyOf ts (λ t. o ≡ record { matrix = w; translation = t; sign = sign }) ↔ IsTranslated n w start sign ps o
+translated_by n w start sign ts ps sums o = (into, back)
+  where
+    into : AnyOf ts (λ t. o ≡ record { matrix = w; translation = t; sign = sign }) → IsTranslated n w start sign ps o
+    into a =
+        let b = (sums a.x).0 a.of_list in
+        record { x = b.x; of_list = b.of_list; holds = a.holds ∙ ap (λ (t : Triple). record { matrix = w; translation = t; sign = sign }) b.holds }
+
+    back : IsTranslated n w start sign ps o → AnyOf ts (λ t. o ≡ record { matrix = w; translation = t; sign = sign })
+    back a =
+        let t = modulo n (sum_of start a.x.translation) in
+        record { x = t; of_list = (sums t).1 (record { x = a.x; of_list = a.of_list; holds = refl }); holds = a.holds }
 
 -- one of two properties in place of an equivalent one
 pub either_same : {A B C D : Type 0} → (B ↔ C) → (A ↔ (B ⊎ D)) → A ↔ (C ⊎ D)

@@ -7,7 +7,7 @@
 use Rattle.std.specs.Prelude.{ℕ, pos, ◌≤◌, ◌<ℤ◌}
 use Rattle.lists.specs.Increasing.{IsMember}
 use Rattle.crystal_spec.specs.Matrices.{Triple, Matrix, multiple}
-use Rattle.crystal_spec.specs.Crystals.{Site, Structure}
+use Rattle.crystal_spec.specs.Crystals.{Atom, Structure}
 use Rattle.crystal_spec.specs.Cells.{DiffersByCells}
 use Rattle.match_spec.specs.Points.{Point, point, point_sum, turned, IsPoint, IsInCell, IsWhole, Equal}
 
@@ -16,7 +16,7 @@ abbrev pub carried : Matrix → Point → Point → Point
 carried q p x = point_sum (turned q x) p
 
 -- each coordinate of x is at least 0 and below 1, and Q x + p is the position of a, or differs from it by whole cells
-pub record IsPlaceOf (c : Structure) (q : Matrix) (p : Point) (a : Site) (x : Point) : Type 0 where
+pub record IsPlaceOf (c : Structure) (q : Matrix) (p : Point) (a : Atom) (x : Point) : Type 0 where
   pub is_point : IsPoint x
   pub in_cell : IsInCell x
   pub position : Triple
@@ -26,7 +26,7 @@ pub record IsPlaceOf (c : Structure) (q : Matrix) (p : Point) (a : Site) (x : Po
 -- n times each coordinate of each place is an integer
 abbrev pub IsCommonDenominator : Structure → Matrix → Point → ℕ → Type 0
 IsCommonDenominator c q p n =
-    (a : Site) (x : Point) → IsMember a c.sites → IsPlaceOf c q p a x → IsWhole x.denominator (multiple (pos n) x.numerators)
+    (a : Atom) (x : Point) → IsMember a c.atoms → IsPlaceOf c q p a x → IsWhole x.denominator (multiple (pos n) x.numerators)
 
 -- the least common denominator of all places
 pub record IsLeastDenominator (c : Structure) (q : Matrix) (p : Point) (n : ℕ) : Type 0 where

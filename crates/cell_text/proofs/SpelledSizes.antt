@@ -7,7 +7,7 @@ use Rattle.std.proofs.lemmas.Bool.{leb-true, and_parts}
 use Rattle.std.proofs.lemmas.Int.{ints}
 use Rattle.ring.specs.Size.{AtMost}
 use Rattle.lists.specs.Increasing.{IsMember}
-use Rattle.crystal_spec.specs.Crystals.{Site, Structure}
+use Rattle.crystal_spec.specs.Crystals.{Atom, Structure}
 use Rattle.matrix3.specs.Bounds.{EntriesAtMost, CoordinatesAtMost}
 use Rattle.plain_text.specs.Text.{lines}
 use Rattle.numbers.specs.Fraction.{Fraction}
@@ -16,11 +16,11 @@ use Rattle.cell_text.specs.declared.version.Version.{Version}
 use Rattle.cell_text.specs.Lines.{Entry, skipped, metric_entry, atom_entry, end_entry, kind_entry, other_entry}
 use Rattle.cell_text.specs.Entries.{AtomLine, ScaledMetric, Contents, values, number_at, metric_of, with_entry, state_after, contents, moments, is_billion, is_metric_in_range, are_moments_in_range}
 use Rattle.cell_text.specs.Rules.{entry_fault, cell_fault}
-use Rattle.cell_text.specs.CellFile.{Spells, cell_with, names_of, site_of, no_metric}
+use Rattle.cell_text.specs.CellFile.{Spells, cell_with, names_of, atom_of, no_metric}
 use Rattle.cell_text.proofs.PassedLines.{metric_fits, moments_fit, text_holds}
 use Rattle.cell_text.proofs.Judging.{IsEntry}
 use Rattle.cell_text.proofs.MetricLines.{at_most, number_billion}
-use Rattle.prim_cell.specs.Sizes.{HasSizesOfRead}
+use Rattle.crystal.specs.Sizes.{HasSizesOfRead}
 
 -- ---- what the contents are
 
@@ -89,18 +89,18 @@ first_small (m ∷ ms) small = small.0
 abbrev are_small : ℕ → List AtomLine → Bool
 are_small k xs = list_all (λ (m : Fraction). is_billion (scaled k m)) (moments xs)
 
-site_small : (names : List (List ℕ)) (n k : ℕ) (x : AtomLine) (xs : List AtomLine) → are_small k (x ∷ xs) ≡ true → CoordinatesAtMost (10 ^ 9) (site_of names n k x).moment × (are_small k xs ≡ true)
+atom_small : (names : List (List ℕ)) (n k : ℕ) (x : AtomLine) (xs : List AtomLine) → are_small k (x ∷ xs) ≡ true → CoordinatesAtMost (10 ^ 9) (atom_of names n k x).moment × (are_small k xs ≡ true)
 unfolding moments
-site_small names n k x xs e =
+atom_small names n k x xs e =
     let p = and_parts (is_billion (scaled k x.ma)) _ e in
     let q = and_parts (is_billion (scaled k x.mb)) _ p.1 in
     let r = and_parts (is_billion (scaled k x.mc)) (are_small k xs) q.1 in
     (record { x = at_most (scaled k x.ma) p.0; y = at_most (scaled k x.mb) q.0; z = at_most (scaled k x.mc) r.0 }, r.1)
 
-sites_small : (names : List (List ℕ)) (n k : ℕ) (xs : List AtomLine) → are_small k xs ≡ true → (a : Site) → IsMember a (map (site_of names n k) xs) → CoordinatesAtMost (10 ^ 9) a.moment
-sites_small names n k [] e a m = absurd m
-sites_small names n k (x ∷ xs) e a (inl same) = subst (λ (s : Site). CoordinatesAtMost (10 ^ 9) s.moment) (sym same) (site_small names n k x xs e).0
-sites_small names n k (x ∷ xs) e a (inr m) = sites_small names n k xs (site_small names n k x xs e).1 a m
+atoms_small : (names : List (List ℕ)) (n k : ℕ) (xs : List AtomLine) → are_small k xs ≡ true → (a : Atom) → IsMember a (map (atom_of names n k) xs) → CoordinatesAtMost (10 ^ 9) a.moment
+atoms_small names n k [] e a m = absurd m
+atoms_small names n k (x ∷ xs) e a (inl same) = subst (λ (s : Atom). CoordinatesAtMost (10 ^ 9) s.moment) (sym same) (atom_small names n k x xs e).0
+atoms_small names n k (x ∷ xs) e a (inr m) = atoms_small names n k xs (atom_small names n k x xs e).1 a m
 
 moments_small : (xs : List AtomLine) → are_moments_in_range xs ≡ true → are_small (common_denominator (moments xs)) xs ≡ true
 unfolding are_moments_in_range
@@ -113,7 +113,7 @@ contents_sizes held small =
     record {
       scale = omega (arith, ints, first.0);
       metric = first.1;
-      moments = sites_small (names_of held.atoms) _ (common_denominator (moments held.atoms)) held.atoms (moments_small held.atoms small.moments);
+      moments = atoms_small (names_of held.atoms) _ (common_denominator (moments held.atoms)) held.atoms (moments_small held.atoms small.moments);
     }
 
 -- A cell that a text spells has the sizes of one that was read.

@@ -14,7 +14,7 @@ use Rattle.matrix3.specs.Matrices as formulas
 use Rattle.crystal_spec.specs.declared.Sign.{Sign}
 use Rattle.crystal_spec.specs.declared.Sign.TheVariants.{Same, Reversed}
 use Rattle.crystal_spec.specs.Matrices.{Matrix, Triple, image, multiple, sum_of, difference}
-use Rattle.crystal_spec.specs.Crystals.{Site, Structure, Keeps}
+use Rattle.crystal_spec.specs.Crystals.{Atom, Structure, Keeps}
 use Rattle.crystal_spec.specs.Operations.{Operation, IsSymmetryOperation, compare_of, sign_factor}
 use Rattle.crystal_spec.proofs.Identities.{by_triples}
 use Rattle.crystal_spec.proofs.Images.{images_of_keeps}
@@ -45,7 +45,7 @@ kept_added c op old new keeps is o = subst (λ (l : List Operation). IsMember o 
 -- ---- one atom after another
 
 -- a kept operation carries the one atom onto the other
-onto_kept : (c : Structure) (time : Bool) (w : Matrix) (t : Triple) (from onto : Site) (o : Operation) (s : Sign) → IsModulo c.n (difference onto.position (image w from.position)) t → IsWanted time s →
+onto_kept : (c : Structure) (time : Bool) (w : Matrix) (t : Triple) (from onto : Atom) (o : Operation) (s : Sign) → IsModulo c.n (difference onto.position (image w from.position)) t → IsWanted time s →
     IsKeptAs c w t s o → IsOnto c time w from onto o
 onto_kept c time w t from onto o s f wanted h = record {
   same_matrix = h.same_matrix;
@@ -55,7 +55,7 @@ onto_kept c time w t from onto o s f wanted h = record {
 }
 
 -- one that carries the one atom onto the other is kept with the translation part that does so
-kept_onto : (c : Structure) (time : Bool) (w : Matrix) (t : Triple) (from onto : Site) (o : Operation) → IsModulo c.n (difference onto.position (image w from.position)) t →
+kept_onto : (c : Structure) (time : Bool) (w : Matrix) (t : Triple) (from onto : Atom) (o : Operation) → IsModulo c.n (difference onto.position (image w from.position)) t →
     IsOnto c time w from onto o → IsKeptAs c w t o.sign o
 kept_onto c time w t from onto o f k = record { same_matrix = k.same_matrix; same_translation = now; same_sign = refl; keeps = subst (λ (r : Triple). Keeps c w r (sign_factor o.sign)) now k.keeps }
   where
@@ -63,7 +63,7 @@ kept_onto c time w t from onto o f k = record { same_matrix = k.same_matrix; sam
     now = modulo_once c.n (difference onto.position (image w from.position)) o.translation t k.translation f
 
 -- the translation part that carries the one atom onto the other with either sign
-pub onto_more : (c : Structure) (w : Matrix) (t : Triple) (from onto : Site) (o : Operation) (A B D : Type 0) → IsModulo c.n (difference onto.position (image w from.position)) t →
+pub onto_more : (c : Structure) (w : Matrix) (t : Triple) (from onto : Atom) (o : Operation) (A B D : Type 0) → IsModulo c.n (difference onto.position (image w from.position)) t →
     B ↔ (IsKeptAs c w t Same o ⊎ D) → A ↔ (IsKeptAs c w t Reversed o ⊎ B) → A ↔ (IsOnto c true w from onto o ⊎ D)
 onto_more c w t from onto o A B D f same reversed = ((λ a. from_reversed (reversed.0 a)), back)
   where
@@ -87,7 +87,7 @@ onto_more c w t from onto o A B D f same reversed = ((λ a. from_reversed (rever
     back (inr d) = reversed.1 (inr (same.1 (inr d)))
 
 -- without time reversal: that with the sign +1 alone
-pub onto_more_same : (c : Structure) (w : Matrix) (t : Triple) (from onto : Site) (o : Operation) (A D : Type 0) → IsModulo c.n (difference onto.position (image w from.position)) t →
+pub onto_more_same : (c : Structure) (w : Matrix) (t : Triple) (from onto : Atom) (o : Operation) (A D : Type 0) → IsModulo c.n (difference onto.position (image w from.position)) t →
     A ↔ (IsKeptAs c w t Same o ⊎ D) → A ↔ (IsOnto c false w from onto o ⊎ D)
 onto_more_same c w t from onto o A D f same = ((λ a. forth (same.0 a)), back)
   where
@@ -104,23 +104,23 @@ onto_more_same c w t from onto o A D f same = ((λ a. forth (same.0 a)), back)
     back (inr d) = same.1 (inr d)
 
 -- the next atom, of the species of the first
-pub atoms_more : (c : Structure) (time : Bool) (w : Matrix) (from : Site) (i : ℕ) (onto : Site) (o : Operation) (A D Old : Type 0) → slice_get c.sites i ≡ Some onto → onto.species ≡ from.species → D ↔ (IsFromAtoms c time w from i o ⊎ Old) → A ↔ (IsOnto c time w from onto o ⊎ D) → A ↔ (IsFromAtoms c time w from (i + 1) o ⊎ Old)
-atoms_more c time w from i onto o A D Old is_site species old more = more_below (IsFromAtom c time w from o) i A D Old old ((λ a. forth (more.0 a)), (λ h. more.1 (back h)))
+pub atoms_more : (c : Structure) (time : Bool) (w : Matrix) (from : Atom) (i : ℕ) (onto : Atom) (o : Operation) (A D Old : Type 0) → slice_get c.atoms i ≡ Some onto → onto.species ≡ from.species → D ↔ (IsFromAtoms c time w from i o ⊎ Old) → A ↔ (IsOnto c time w from onto o ⊎ D) → A ↔ (IsFromAtoms c time w from (i + 1) o ⊎ Old)
+atoms_more c time w from i onto o A D Old is_atom species old more = more_below (IsFromAtom c time w from o) i A D Old old ((λ a. forth (more.0 a)), (λ h. more.1 (back h)))
   where
     forth : IsOnto c time w from onto o ⊎ D → IsFromAtom c time w from o i ⊎ D
-    forth (inl k) = inl (record { site = onto; is_site = is_site; same_species = species; onto = k })
+    forth (inl k) = inl (record { atom = onto; is_atom = is_atom; same_species = species; onto = k })
     forth (inr d) = inr d
 
     back : IsFromAtom c time w from o i ⊎ D → IsOnto c time w from onto o ⊎ D
-    back (inl k) = inl (subst (λ (s : Site). IsOnto c time w from s o) (same_at c.sites i k.site onto k.is_site is_site) k.onto)
+    back (inl k) = inl (subst (λ (s : Atom). IsOnto c time w from s o) (same_at c.atoms i k.atom onto k.is_atom is_atom) k.onto)
     back (inr d) = inr d
 
 -- the next atom, of another species
-pub atoms_same : (c : Structure) (time : Bool) (w : Matrix) (from : Site) (i : ℕ) (onto : Site) (o : Operation) (D Old : Type 0) → slice_get c.sites i ≡ Some onto → (onto.species ≡ from.species → ⊥) → D ↔ (IsFromAtoms c time w from i o ⊎ Old) → D ↔ (IsFromAtoms c time w from (i + 1) o ⊎ Old)
-atoms_same c time w from i onto o D Old is_site other old = same_below (IsFromAtom c time w from o) i D Old none old
+pub atoms_same : (c : Structure) (time : Bool) (w : Matrix) (from : Atom) (i : ℕ) (onto : Atom) (o : Operation) (D Old : Type 0) → slice_get c.atoms i ≡ Some onto → (onto.species ≡ from.species → ⊥) → D ↔ (IsFromAtoms c time w from i o ⊎ Old) → D ↔ (IsFromAtoms c time w from (i + 1) o ⊎ Old)
+atoms_same c time w from i onto o D Old is_atom other old = same_below (IsFromAtom c time w from o) i D Old none old
   where
     none : IsFromAtom c time w from o i → ⊥
-    none k = other (ap (λ (s : Site). s.species) (sym (same_at c.sites i k.site onto k.is_site is_site)) ∙ k.same_species)
+    none k = other (ap (λ (s : Atom). s.species) (sym (same_at c.atoms i k.atom onto k.is_atom is_atom)) ∙ k.same_species)
 
 -- the translation part from where the first atom goes
 carried_translation : (i t q d : Triple) (n : ℤ) → sum_of i t ≡ sum_of q (multiple n d) → difference q i ≡ sum_of t (multiple n (multiple (negsuc 0) d))
@@ -137,28 +137,28 @@ carried_translation i t q d n e =
     (formulas.sum_of quoted y (formulas.multiple quoted (var 9) (formulas.multiple quoted (con (negsuc 0)) u))) refl
 
 -- all atoms are seen: exactly the symmetry operations of this matrix
-pub atoms_all : (c : Structure) (time : Bool) (w : Matrix) (from : Site) (o : Operation) (A Old : Type 0) → IsMember from c.sites → A ↔ (IsFromAtoms c time w from (length c.sites) o ⊎ Old) → A ↔ (IsKeptBy c time w o ⊎ Old)
+pub atoms_all : (c : Structure) (time : Bool) (w : Matrix) (from : Atom) (o : Operation) (A Old : Type 0) → IsMember from c.atoms → A ↔ (IsFromAtoms c time w from (length c.atoms) o ⊎ Old) → A ↔ (IsKeptBy c time w o ⊎ Old)
 atoms_all c time w from o A Old of_cell found = ((λ a. forth (found.0 a)), (λ h. found.1 (back h)))
   where
-    forth : IsFromAtoms c time w from (length c.sites) o ⊎ Old → IsKeptBy c time w o ⊎ Old
+    forth : IsFromAtoms c time w from (length c.atoms) o ⊎ Old → IsKeptBy c time w o ⊎ Old
     forth (inl f) = let k = f.holds.onto in inl (record { same_matrix = k.same_matrix; wanted = k.wanted; symmetry = record { translation = k.translation.within; keeps = subst (λ (m : Matrix). Keeps c m o.translation (sign_factor o.sign)) (sym k.same_matrix) k.keeps } })
     forth (inr d) = inr d
 
-    back : IsKeptBy c time w o ⊎ Old → IsFromAtoms c time w from (length c.sites) o ⊎ Old
+    back : IsKeptBy c time w o ⊎ Old → IsFromAtoms c time w from (length c.atoms) o ⊎ Old
     back (inl h) =
         let keeps = subst (λ (m : Matrix). Keeps c m o.translation (sign_factor o.sign)) h.same_matrix h.symmetry.keeps in
         let image_of = images_of_keeps c w o.translation (sign_factor o.sign) keeps from of_cell in
-        let k = place_of_member c.sites image_of.site image_of.of_cell in
+        let k = place_of_member c.atoms image_of.atom image_of.of_cell in
         inl (record {
           number = k.number;
           below = k.below;
           holds = record {
-            site = image_of.site;
-            is_site = k.at;
+            atom = image_of.atom;
+            is_atom = k.at;
             same_species = image_of.same_species;
             onto = record {
               same_matrix = h.same_matrix;
-              translation = record { within = h.symmetry.translation; cells = multiple (negsuc 0) image_of.cells; same = carried_translation (image w from.position) o.translation image_of.site.position image_of.cells (pos c.n) image_of.same_position };
+              translation = record { within = h.symmetry.translation; cells = multiple (negsuc 0) image_of.cells; same = carried_translation (image w from.position) o.translation image_of.atom.position image_of.cells (pos c.n) image_of.same_position };
               wanted = h.wanted;
               keeps = keeps;
             };

@@ -8,7 +8,7 @@ use Rattle.lists.specs.Increasing.{IsIncreasing, IsMember, inserted}
 use Rattle.lists.proofs.Increasing.{IsMember-inserted}
 use Rattle.lists.proofs.Members.{member_at, same_at, place_of_member}
 use Rattle.crystal_spec.specs.Matrices.{Triple, difference}
-use Rattle.crystal_spec.specs.Crystals.{Site, Structure}
+use Rattle.crystal_spec.specs.Crystals.{Atom, Structure}
 use Rattle.crystal_spec.specs.Operations.{Operation, IsWithinCell, IsSymmetryOperation, compare_of}
 use Rattle.crystal_spec.proofs.Ordered.{compare_exact}
 use Rattle.crystal.specs.Cells.{IsCellWithinLimits}
@@ -19,7 +19,7 @@ use Rattle.basis_spec.proofs.Candidates.{pure_reaches}
 use Rattle.prim_cell.specs.Candidates.{IsOnto, IsFromAtoms}
 use Rattle.prim_cell.proofs.Moving.{some_cells}
 
-module _ (c : Structure) (a b : ℕ) (from onto : Site) (is_from : slice_get c.sites a ≡ Some from) (is_onto : slice_get c.sites b ≡ Some onto) where
+module _ (c : Structure) (a b : ℕ) (from onto : Atom) (is_from : slice_get c.atoms a ≡ Some from) (is_onto : slice_get c.atoms b ≡ Some onto) where
   -- the difference of the two positions
   step : Triple
   step = modulo c.n (difference onto.position from.position)
@@ -28,15 +28,15 @@ module _ (c : Structure) (a b : ℕ) (from onto : Site) (is_from : slice_get c.s
   alone : (o : Operation) → IsOnto c a b o → o ≡ pure_translation step
   unfolding step
   alone o k =
-      let f = same_at c.sites a k.from from k.is_from is_from in
-      let g = same_at c.sites b k.onto onto k.is_onto is_onto in
+      let f = same_at c.atoms a k.from from k.is_from is_from in
+      let g = same_at c.atoms b k.onto onto k.is_onto is_onto in
       k.is ∙ (λ i. pure_translation (modulo c.n (difference (g i).position (f i).position)))
 
   alike : (o : Operation) → IsOnto c a b o → onto.species ≡ from.species
   alike o k =
-      let f = same_at c.sites a k.from from k.is_from is_from in
-      let g = same_at c.sites b k.onto onto k.is_onto is_onto in
-      ap (λ (s : Site). s.species) (sym g) ∙ k.same_species ∙ ap (λ (s : Site). s.species) f
+      let f = same_at c.atoms a k.from from k.is_from is_from in
+      let g = same_at c.atoms b k.onto onto k.is_onto is_onto in
+      ap (λ (s : Atom). s.species) (sym g) ∙ k.same_species ∙ ap (λ (s : Atom). s.species) f
 
   -- the two atoms are of one species, and the translation keeps the crystal: it is put in
   pub onto_kept : (op : Operation) (old new : List Operation) → onto.species ≡ from.species → op ≡ pure_translation (modulo c.n (difference onto.position from.position)) → IsTranslation c op.translation → new ≡ inserted compare_of op old →
@@ -82,7 +82,7 @@ module _ (c : Structure) (a b : ℕ) (from onto : Site) (is_from : slice_get c.s
       back (inr d) = d
 
 -- all atoms are seen: exactly the pure translations
-pub found_all : (c : Structure) (a : ℕ) (from : Site) (os : List Operation) → IsCellWithinLimits c → slice_get c.sites a ≡ Some from → IsIncreasing compare_of os → ((o : Operation) → IsMember o os ↔ IsFromAtoms c a (length c.sites) o) → ListsPureTranslations c os
+pub found_all : (c : Structure) (a : ℕ) (from : Atom) (os : List Operation) → IsCellWithinLimits c → slice_get c.atoms a ≡ Some from → IsIncreasing compare_of os → ((o : Operation) → IsMember o os ↔ IsFromAtoms c a (length c.atoms) o) → ListsPureTranslations c os
 found_all c a from os cell is_from increasing found = record {
   increasing = increasing;
   exact = λ o. ((λ m. let f = (found o).0 m in forth o f.number f.holds), (λ h. (found o).1 (back o h.0 h.1)));
@@ -95,11 +95,11 @@ found_all c a from os cell is_from increasing found = record {
         let pure : o ≡ pure_translation o.translation = h.is ∙ ap pure_translation (sym is) in
         (pure, subst (IsSymmetryOperation c) (sym pure) (record { translation = subst (IsWithinCell c.n) (sym is) (modulo_within c.n (difference h.onto.position h.from.position) (some_cells c cell)); keeps = h.keeps }))
 
-    back : (o : Operation) → o ≡ pure_translation o.translation → IsSymmetryOperation c o → IsFromAtoms c a (length c.sites) o
+    back : (o : Operation) → o ≡ pure_translation o.translation → IsSymmetryOperation c o → IsFromAtoms c a (length c.atoms) o
     back o e h =
         let keeps = (subst (IsSymmetryOperation c) e h).keeps in
-        let r = pure_reaches c o.translation from (some_cells c cell) (record { translation = h.translation; keeps = keeps }) (member_at c.sites a from is_from) in
-        let n = place_of_member c.sites r.0 r.1.0 in
+        let r = pure_reaches c o.translation from (some_cells c cell) (record { translation = h.translation; keeps = keeps }) (member_at c.atoms a from is_from) in
+        let n = place_of_member c.atoms r.0 r.1.0 in
         record {
           number = n.number;
           below = n.below;
